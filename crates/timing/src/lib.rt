@@ -1,0 +1,41 @@
+// A pair of registers with the delays of the logic between them, and its two timing rules.
+// The contracts cite `specs/Rules.antt`; the limits stand again, one by one, in `specs/Limits.antt`.
+ghost use mathlib.Core.Path.{_≡_};
+ghost use Rattle.timing.specs.Rules.{setupMet, holdMet};
+
+// The limits of a delay list and of a call, each named once. Times are in picoseconds.
+pub const MAX_REGISTERS: u32 = 512;
+
+pub const MAX_PAIRS: usize = 2_048;
+
+pub const MAX_DELAY: u32 = 1_000_000;
+
+pub const MAX_PERIOD: u32 = 1_000_000;
+
+pub const MAX_OFFSET: u32 = 1_000_000;
+
+pub const MAX_TIMING: u32 = 511_000_000;
+
+// The launch and the capture register, and the least and the greatest delay between them.
+pub struct Pair {
+    pub launch: u32,
+    pub capture: u32,
+    pub least: u32,
+    pub greatest: u32,
+}
+
+impl Pair {
+    // Setup at a period, for the times of the launch and of the capture register.
+    pub fn setup(self, period: u32, launch_time: u32, capture_time: u32) -> bool
+        ensures { λ r. ⌜ r ≡ setupMet self period «launch_time» «capture_time» ⌝ }
+    {
+        (launch_time as u64) + (self.greatest as u64) <= (capture_time as u64) + (period as u64)
+    }
+
+    // Hold, for the times of the launch and of the capture register.
+    pub fn hold(self, launch_time: u32, capture_time: u32) -> bool
+        ensures { λ r. ⌜ r ≡ holdMet self «launch_time» «capture_time» ⌝ }
+    {
+        (capture_time as u64) <= (launch_time as u64) + (self.least as u64)
+    }
+}
