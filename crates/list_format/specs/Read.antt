@@ -3,7 +3,7 @@ use Prim.Native.Nat.{ℕ, _*_}
 use mathlib.Core.List.{List, [], _∷_, _++_}
 use lib.Dec.{ltb}
 use Rattle.timing.specs.declared.Pair.{Pair}
-use Rattle.words.specs.Run.{run}
+use Rattle.buffers.specs.Run.{run}
 use Rattle.refusals.specs.Checks.{Check}
 use Rattle.refusals.specs.Reply.{Reply, refusal, numbers, Outcome, done, answered}
 use Rattle.list_format.specs.Lists.{registers, pairCount, pairAt, listChecks}

@@ -7,7 +7,7 @@ use Rattle.timing.specs.declared.Pair.{Pair}
 use Rattle.timing.specs.Rules.{pair}
 use Rattle.timing.specs.Limits.{maxRegisters, maxPairs}
 use Rattle.words.specs.Word.{headWord, pairWord, leastWord, greatestWord, endWord, checksum}
-use Rattle.words.specs.Run.{run}
+use Rattle.buffers.specs.Run.{run}
 use Rattle.refusals.specs.Checks.{Check, eachCheck}
 use Rattle.refusals.specs.Reply.{Reply, refusal, numbers, Outcome, done, answered}
 use Rattle.list_format.specs.Lists.{pairPlace, differ, valueChecks}

@@ -1,7 +1,7 @@
 -- What a call comes to: a refusal, or the numbers returned and what the answer buffer then holds.
 use Prim.Native.Nat.{ℕ}
-use mathlib.Core.List.{List, _++_}
-use lib.ListN.{length, drop}
+use mathlib.Core.List.{List}
+use Rattle.buffers.specs.Over.{over}
 use Rattle.refusals.specs.Checks.{Check, firstFault}
 use Rattle.refusals.specs.declared.Fault.{Fault}
 use Rattle.refusals.specs.declared.Fault.the-variants.{None, At}
@@ -19,10 +19,6 @@ pub data Outcome : Type 0 where
 unfoldable pub replyOf : Outcome → Reply
 replyOf (refused number place) = refusal number place
 replyOf (done returned stored) = numbers returned
-
--- xs in the first places, the later ones kept
-abbrev pub over : List ℕ → List ℕ → List ℕ
-over xs buffer = xs ++ drop (length xs) buffer
 
 -- the answer buffer afterwards: a refusal keeps it whole
 unfoldable pub bufferAfter : Outcome → List ℕ → List ℕ

@@ -3,7 +3,7 @@ use Prim.Native.Nat.{ℕ, _+_, _*_, _^_}
 use mathlib.Core.List.{List, [], _∷_}
 use lib.ListN.{getD}
 use Rattle.words.specs.Word.{field}
-use Rattle.words.specs.Run.{run}
+use Rattle.buffers.specs.Run.{run}
 
 abbrev pub bytesOf : ℕ → List ℕ
 bytesOf w = field 0 8 w ∷ field 8 8 w ∷ field 16 8 w ∷ field 24 8 w ∷ []

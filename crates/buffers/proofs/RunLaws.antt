@@ -1,0 +1,38 @@
+-- Stretches of one width strung together: how long they are, what stands where, and when they make up a given list.
+use mathlib.Core.Path.{_≡_, refl, sym, _∙_, ap}
+use mathlib.Core.List.{List, [], _∷_, _++_}
+use mathlib.Core.Logic.{_⊎_, inl, inr}
+use Prim.Native.Nat.{ℕ, zero, suc, _+_, _*_, _<_, _≤_}
+use native.Mathlib.Nat.{eq-or-lt-of-le, le-of-suc-le-suc, mul-zero, mul-suc, mul-le-mul-left}
+use native.Mathlib.Omega.{arith}
+use lib.ListN.{length, getD, take, drop, length-append, List·getD-append}
+use lib.Seq.{take-all, take-add, getD-append-add}
+use Rattle.buffers.specs.Run.{run}
+
+module _ (f : ℕ → List ℕ) (w : ℕ) (wide : (k : ℕ) → length (f k) ≡ w) where
+  pub run-length : (m : ℕ) → length (run f m) ≡ w * m
+  unfolding run
+  run-length zero = sym (mul-zero w)
+  run-length (suc m) = rw (length-append, run-length m, wide m, mul-suc)
+
+  -- number j of stretch k
+  pub run-at : (m k j : ℕ) → k < m → j < w → getD (run f m) (w * k + j) 0 ≡ getD (f k) j 0
+  unfolding run
+  run-at zero k j h l = absurd (omega arith)
+  run-at (suc m) k j h l = go (eq-or-lt-of-le (le-of-suc-le-suc h)) (run-at m k j)
+    where
+      go : (k ≡ m) ⊎ (k < m) → (k < m → j < w → getD (run f m) (w * k + j) 0 ≡ getD (f k) j 0) → getD (run f m ++ f m) (w * k + j) 0 ≡ getD (f k) j 0
+      go (inl e) before = rw (e, ← run-length m, getD-append-add (run f m) (f m) j 0)
+      go (inr b) before =
+          let inside : w * k + j < length (run f m) = omega (arith, run-length m, mul-le-mul-left w b, mul-suc w k) in
+          List·getD-append (run f m) (f m) 0 (w * k + j) inside ∙ before b l
+
+  -- they make up xs, if each is the stretch of xs at its place
+  module _ (xs : List ℕ) (m : ℕ) (each : (k : ℕ) → k < m → f k ≡ take w (drop (w * k) xs)) where
+    upTo : (k : ℕ) → k ≤ m → run f k ≡ take (w * k) xs
+    unfolding run
+    upTo zero h = rw mul-zero
+    upTo (suc k) h = rw (upTo k (omega arith), each k h, mul-suc, take-add)
+
+    pub run-is : length xs ≡ w * m → run f m ≡ xs
+    run-is e = upTo m (omega arith) ∙ take-all (w * m) xs (omega arith)

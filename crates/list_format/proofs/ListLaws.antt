@@ -1,0 +1,220 @@
+-- What it means for a list to be accepted, fact by fact, and what follows for its pairs.
+use Prim.Native.Nat.{ℕ, zero, suc, _+_, _*_, _-_, _<_, _≤_}
+use mathlib.Core.Bool.{Bool, not}
+use mathlib.Core.List.{List, [], _∷_, _++_}
+use mathlib.Core.Path.{_≡_, refl, sym, _∙_, ap}
+use native.Mathlib.Omega.{arith}
+use lib.ListN.{length, take}
+use borrow.Author.Tests.{ltb-false, le-ltb, leb-false, lt-leb, eqb-true, eqb-false, eq-eqb, ne-eqb, not-false}
+use Rattle.timing.specs.declared.Pair.{Pair}
+use Rattle.timing.specs.Rules.{Each, InRange}
+use Rattle.timing.specs.Limits.{maxRegisters, maxPairs, maxDelay}
+use Rattle.words.specs.Word.{kindOf, payloadOf, headSpare, pairSpare, checksum}
+use Rattle.refusals.specs.Checks.{Check, firstFault, eachCheck}
+use Rattle.refusals.specs.declared.Fault.{Fault}
+use Rattle.refusals.specs.declared.Fault.the-variants.{None, At}
+use Rattle.refusals.proofs.CheckLaws.{both-pass, pass-both, passed, passes, each-passes, all-pass}
+use Rattle.list_format.specs.Lists.{word, registers, pairCount, pairPlace, pairAt, pairsFrom, pairs, differ, headChecks, kindChecks, valueChecks, pairChecks, endChecks, bodyChecks, listChecks, judged, verdict, IsAccepted, PairIn, IsPair}
+use Rattle.list_format.specs.declared.Verdict.{Verdict}
+use Rattle.list_format.specs.declared.Verdict.the-variants.{Accepted, Refused}
+
+-- ---- the verdict and the first check that fails
+
+module _ (ws : List ℕ) where
+  pub fault→refused : {number place : ℕ} → firstFault (listChecks ws) ≡ At number place → verdict ws ≡ Refused number place
+  unfolding judged verdict
+  fault→refused e = ap (judged ws) e
+
+  pub none→accepted : firstFault (listChecks ws) ≡ None → IsAccepted ws
+  unfolding judged verdict
+  none→accepted e = ap (judged ws) e
+
+  judged-refused : (f : Fault) {number place : ℕ} → judged ws f ≡ Refused number place → f ≡ At number place
+  unfolding judged
+  judged-refused None e =
+      let z : _≡_ {A = ℕ} 0 1 = cc in
+      absurd (omega arith)
+  judged-refused (At number place) e = cc
+
+  pub refused→fault : {number place : ℕ} → verdict ws ≡ Refused number place → firstFault (listChecks ws) ≡ At number place
+  unfolding verdict
+  refused→fault e = judged-refused (firstFault (listChecks ws)) e
+
+  -- an accepted list passes every check, and its counts are those of its head
+  pub record AcceptedAs (n m : ℕ) : Type 0 where
+    pub none : firstFault (listChecks ws) ≡ None
+    pub registersAre : n ≡ registers ws
+    pub pairsAre : m ≡ pairCount ws
+
+  judged-accepted : (f : Fault) {n m : ℕ} → firstFault (listChecks ws) ≡ f → judged ws f ≡ Accepted n m → AcceptedAs n m
+  unfolding judged
+  judged-accepted None e a = record { none = e; registersAre = cc; pairsAre = cc }
+  judged-accepted (At number place) e a =
+      let z : _≡_ {A = ℕ} 0 1 = cc in
+      absurd (omega arith)
+
+  pub accepted→none : {n m : ℕ} → verdict ws ≡ Accepted n m → AcceptedAs n m
+  unfolding verdict
+  accepted→none a = judged-accepted (firstFault (listChecks ws)) refl a
+
+-- ---- the facts behind the checks
+
+-- the values of a pair of a list with n registers
+pub record ValuesIn (n : ℕ) (p : Pair) : Type 0 where
+  pub launch : p .launch < n
+  pub capture : p .capture < n
+  pub order : p .least ≤ p .greatest
+  pub limit : p .greatest ≤ maxDelay
+
+-- the kinds of the three words of a pair
+pub record KindsIn (p least greatest : ℕ) : Type 0 where
+  pub kind : kindOf p ≡ 2
+  pub spare : pairSpare p ≡ 0
+  pub leastKind : kindOf least ≡ 3
+  pub greatestKind : kindOf greatest ≡ 4
+
+-- the head and the count of words
+pub record HeadIn (ws : List ℕ) : Type 0 where
+  pub kind : kindOf (word ws 0) ≡ 1
+  pub spare : headSpare (word ws 0) ≡ 0
+  pub some : 0 < registers ws
+  pub most : registers ws ≤ maxRegisters
+  pub few : pairCount ws ≤ maxPairs
+  pub size : length ws ≡ pairPlace (pairCount ws) + 1
+
+-- the end word
+pub record EndIn (ws : List ℕ) (at : ℕ) : Type 0 where
+  pub kind : kindOf (word ws at) ≡ 7
+  pub payload : payloadOf (word ws at) ≡ checksum (take at ws)
+
+same : (a b : ℕ) → differ a b ≡ Bool.false → a ≡ b
+same a b e = eqb-true a b (not-false _ e)
+
+no-difference : (a b : ℕ) → a ≡ b → differ a b ≡ Bool.false
+no-difference a b e = ap not (eq-eqb a b e)
+
+module _ (n : ℕ) (p : Pair) (at leastAt greatestAt : ℕ) where
+  pub values-in : firstFault (valueChecks n p at leastAt greatestAt) ≡ None → ValuesIn n p
+  values-in e =
+      let h = passed (valueChecks n p at leastAt greatestAt) e in
+      record {
+        launch = leb-false _ _ (h .0);
+        capture = leb-false _ _ (h .1 .0);
+        order = ltb-false _ _ (h .1 .1 .1 .1 .0);
+        limit = ltb-false _ _ (h .1 .1 .1 .0);
+      }
+
+  pub values-pass : ValuesIn n p → firstFault (valueChecks n p at leastAt greatestAt) ≡ None
+  values-pass v =
+      passes (valueChecks n p at leastAt greatestAt)
+      (lt-leb _ _ (v .launch), (lt-leb _ _ (v .capture), (le-ltb maxDelay (p .least) (omega arith), (le-ltb _ _ (v .limit), (le-ltb _ _ (v .order), tt)))))
+
+module _ (p least greatest at : ℕ) where
+  kinds-in : firstFault (kindChecks p least greatest at) ≡ None → KindsIn p least greatest
+  kinds-in e =
+      let h = passed (kindChecks p least greatest at) e in
+      record { kind = same _ _ (h .0); spare = same _ _ (h .1 .0); leastKind = same _ _ (h .1 .1 .0); greatestKind = same _ _ (h .1 .1 .1 .0) }
+
+  kinds-pass : KindsIn p least greatest → firstFault (kindChecks p least greatest at) ≡ None
+  kinds-pass k =
+      passes (kindChecks p least greatest at)
+      (no-difference _ _ (k .kind), (no-difference _ _ (k .spare), (no-difference _ _ (k .leastKind), (no-difference _ _ (k .greatestKind), tt))))
+
+module _ (ws : List ℕ) where
+  pub head-in : firstFault (headChecks ws) ≡ None → HeadIn ws
+  head-in e =
+      let h = passed (headChecks ws) e in
+      record {
+        kind = same _ _ (h .1 .0);
+        spare = same _ _ (h .1 .1 .0);
+        some = omega (arith, eqb-false (registers ws) 0 (h .1 .1 .1 .0));
+        most = ltb-false _ _ (h .1 .1 .1 .1 .0);
+        few = ltb-false _ _ (h .1 .1 .1 .1 .1 .0);
+        size = same _ _ (h .1 .1 .1 .1 .1 .1 .0);
+      }
+
+  head-pass : HeadIn ws → firstFault (headChecks ws) ≡ None
+  head-pass h =
+      passes (headChecks ws)
+      (le-ltb (length ws) 2 (omega (arith, h .size)),
+      (no-difference _ _ (h .kind),
+      (no-difference _ _ (h .spare), (ne-eqb (registers ws) 0 (λ e. omega (arith, h .some)), (le-ltb _ _ (h .most), (le-ltb _ _ (h .few), (no-difference _ _ (h .size), tt)))))))
+
+  module _ (at : ℕ) where
+    end-in : firstFault (endChecks ws at) ≡ None → EndIn ws at
+    end-in e =
+        let h = passed (endChecks ws at) e in
+        record { kind = same _ _ (h .0); payload = same _ _ (h .1 .0) }
+
+    end-pass : EndIn ws at → firstFault (endChecks ws at) ≡ None
+    end-pass e = passes (endChecks ws at) (no-difference _ _ (e .kind), (no-difference _ _ (e .payload), tt))
+
+  -- ---- an accepted list, fact by fact
+
+  pub record ListIn : Type 0 where
+    pub head : HeadIn ws
+    pub kinds : (k : ℕ) → k < pairCount ws → KindsIn (word ws (pairPlace k)) (word ws (pairPlace k + 1)) (word ws (pairPlace k + 2))
+    pub values : (k : ℕ) → k < pairCount ws → ValuesIn (registers ws) (pairAt ws k)
+    pub end : EndIn ws (pairPlace (pairCount ws))
+
+  pub list-in : firstFault (listChecks ws) ≡ None → ListIn
+  list-in e =
+      let body = both-pass (headChecks ws) (bodyChecks ws) e in
+      let rest = both-pass (eachCheck (pairChecks ws (registers ws)) 0 (pairCount ws)) (endChecks ws (pairPlace (pairCount ws))) (body .1) in
+      record {
+        head = head-in (body .0);
+        kinds = λ k h. kinds-in _ _ _ _ (parts k (rest .0) h .0);
+        values = λ k h. values-in _ _ _ _ _ (parts k (rest .0) h .1);
+        end = end-in _ (rest .1);
+      }
+    where
+      parts : (k : ℕ) → firstFault (eachCheck (pairChecks ws (registers ws)) 0 (pairCount ws)) ≡ None → k < pairCount ws
+          → (firstFault (kindChecks (word ws (pairPlace k)) (word ws (pairPlace k + 1)) (word ws (pairPlace k + 2)) (pairPlace k)) ≡ None)
+              × (firstFault (valueChecks (registers ws) (pairAt ws k) (pairPlace k) (pairPlace k + 1) (pairPlace k + 2)) ≡ None)
+      parts k e h =
+          let z : 0 + k ≡ k = omega arith in
+          both-pass _ _ (rw z at (each-passes (pairChecks ws (registers ws)) 0 (pairCount ws) e k h))
+
+  pub list-pass : ListIn → firstFault (listChecks ws) ≡ None
+  list-pass l =
+      pass-both (headChecks ws) (bodyChecks ws) (head-pass (l .head))
+      (pass-both (eachCheck (pairChecks ws (registers ws)) 0 (pairCount ws)) (endChecks ws (pairPlace (pairCount ws)))
+      (all-pass (pairChecks ws (registers ws)) 0 (pairCount ws) each)
+      (end-pass _ (l .end)))
+    where
+      each : (k : ℕ) → k < pairCount ws → firstFault (pairChecks ws (registers ws) (0 + k)) ≡ None
+      each k h =
+          let z : 0 + k ≡ k = omega arith in
+          rw z (pass-both _ _ (kinds-pass _ _ _ _ (l .kinds k h)) (values-pass _ _ _ _ _ (l .values k h)))
+
+  pub accepted-in : IsAccepted ws → ListIn
+  accepted-in a = list-in (accepted→none ws a .none)
+
+  -- ---- its pairs
+
+  -- pair k stands in the list
+  pub pair-place : (k : ℕ) → PairIn ws k → pairPlace k + 3 < length ws
+  pair-place k p = omega (arith, accepted-in (p .accepted) .head .size, p .below)
+
+  pub is-pair : (k : ℕ) → PairIn ws k → IsPair ws k (pairAt ws k)
+  is-pair k p =
+      let v = accepted-in (p .accepted) .values k (p .below) in
+      record { same = refl; launch = v .launch; capture = v .capture; order = v .order; limit = v .limit }
+
+  -- a property of each pair of the list
+  each-from : (P : Pair → Type 0) (k left : ℕ) → ((i : ℕ) → i < k + left → P (pairAt ws i)) → Each P (pairsFrom ws k left)
+  unfolding pairsFrom
+  each-from P k zero h = tt
+  each-from P k (suc left) h = (h k (omega arith), each-from P (k + 1) left (λ i l. h i (omega arith)))
+
+  pub each-pair : (P : Pair → Type 0) → ((k : ℕ) → k < pairCount ws → P (pairAt ws k)) → Each P (pairs ws)
+  each-pair P h = each-from P 0 (pairCount ws) (λ k l. h k (omega arith))
+
+  pub pairs-in-range : IsAccepted ws → Each (InRange (registers ws)) (pairs ws)
+  pairs-in-range a =
+      each-pair (InRange (registers ws)) (λ k h.
+          let v = accepted-in a .values k h in
+          record { launch = v .launch; capture = v .capture })
+
+  pub pairs-within : IsAccepted ws → Each (λ p. p .greatest ≤ maxDelay) (pairs ws)
+  pairs-within a = each-pair (λ p. p .greatest ≤ maxDelay) (λ k h. accepted-in a .values k h .limit)

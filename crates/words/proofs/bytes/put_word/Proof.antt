@@ -1,0 +1,24 @@
+-- Four stores make one stretch.
+use mathlib.Core.Path.{_≡_}
+use Prim.Native.Nat.{_/_, _%_}
+use native.Mathlib.Numerals.{add-one, add-two, add-three}
+use native.Mathlib.Omega.{arith}
+use lib.ListN.{length-set}
+use Rattle.buffers.proofs.FillLaws.{sets-put}
+use borrow.Author.Needs.{needs}
+use Rattle.words.specs.Bytes.{bytesOf}
+use Rattle.words.proofs.bytes.put_word.Statement.{statement}
+use Rattle.words.proofs.bytes.put_word.Tie as tie
+
+returns : tie.Need-returns
+returns c =
+    let low : c .args .w % 256 ≡ c .args .w / 1 % 256 = omega arith in
+    rw (add-one, add-two, add-three, low) (sets-put (bytesOf (c .args .w)) (c .args .bytes .now) (c .args .at) (omega arith))
+
+pub put-word-spec : {M : Type 1} → statement M
+put-word-spec =
+    tie.close
+    (tie.spec
+    (λ c. search needs) (λ c. search needs) (λ c. search needs) (λ c. search needs) (λ c. simp length-set (omega arith))
+    (λ c. search needs) (λ c. search needs) (λ c. simp length-set (omega arith)) (λ c. search needs) (λ c. search needs)
+    (λ c. simp length-set (omega arith)) (λ c. search needs) returns)
