@@ -13,7 +13,7 @@ use Rattle.words.specs.Word.{kindOf, payloadOf, headSpare, pairSpare, checksum}
 use Rattle.refusals.specs.Checks.{Check, firstFault, eachCheck}
 use Rattle.refusals.specs.declared.Fault.{Fault}
 use Rattle.refusals.specs.declared.Fault.the-variants.{None, At}
-use Rattle.refusals.proofs.CheckLaws.{both-pass, pass-both, passed, passes, each-passes, all-pass}
+use Rattle.refusals.proofs.CheckLaws.{stop-first, pass-first, both-pass, pass-both, passed, passes, each-passes, all-pass}
 use Rattle.list_format.specs.Lists.{word, registers, pairCount, pairPlace, pairAt, pairsFrom, pairs, differ, headChecks, kindChecks, valueChecks, pairChecks, endChecks, bodyChecks, listChecks, judged, verdict, IsAccepted, PairIn, IsPair}
 use Rattle.list_format.specs.declared.Verdict.{Verdict}
 use Rattle.list_format.specs.declared.Verdict.the-variants.{Accepted, Refused}
@@ -28,6 +28,17 @@ module _ (ws : List ℕ) where
   pub none→accepted : firstFault (listChecks ws) ≡ None → IsAccepted ws
   unfolding judged verdict
   none→accepted e = ap (judged ws) e
+
+  -- the head decides, or else what stands after it
+  pub head-refuses : {number place : ℕ} → firstFault (headChecks (word ws 0) (length ws)) ≡ At number place → verdict ws ≡ Refused number place
+  head-refuses e = fault→refused (stop-first (headChecks (word ws 0) (length ws)) (bodyChecks ws (registers ws) (pairCount ws)) e)
+
+  module _ (head : firstFault (headChecks (word ws 0) (length ws)) ≡ None) where
+    pub body-refuses : {number place : ℕ} → firstFault (bodyChecks ws (registers ws) (pairCount ws)) ≡ At number place → verdict ws ≡ Refused number place
+    body-refuses e = fault→refused (pass-first (headChecks (word ws 0) (length ws)) (bodyChecks ws (registers ws) (pairCount ws)) head ∙ e)
+
+    pub body-accepts : firstFault (bodyChecks ws (registers ws) (pairCount ws)) ≡ None → IsAccepted ws
+    body-accepts e = none→accepted (pass-both (headChecks (word ws 0) (length ws)) (bodyChecks ws (registers ws) (pairCount ws)) head e)
 
   judged-refused : (f : Fault) {number place : ℕ} → judged ws f ≡ Refused number place → f ≡ At number place
   unfolding judged
@@ -121,9 +132,9 @@ module _ (p least greatest at : ℕ) where
       (no-difference _ _ (k .kind), (no-difference _ _ (k .spare), (no-difference _ _ (k .leastKind), (no-difference _ _ (k .greatestKind), tt))))
 
 module _ (ws : List ℕ) where
-  pub head-in : firstFault (headChecks ws) ≡ None → HeadIn ws
+  pub head-in : firstFault (headChecks (word ws 0) (length ws)) ≡ None → HeadIn ws
   head-in e =
-      let h = passed (headChecks ws) e in
+      let h = passed (headChecks (word ws 0) (length ws)) e in
       record {
         kind = same _ _ (h .1 .0);
         spare = same _ _ (h .1 .1 .0);
@@ -133,12 +144,15 @@ module _ (ws : List ℕ) where
         size = same _ _ (h .1 .1 .1 .1 .1 .1 .0);
       }
 
-  head-pass : HeadIn ws → firstFault (headChecks ws) ≡ None
+  head-pass : HeadIn ws → firstFault (headChecks (word ws 0) (length ws)) ≡ None
   head-pass h =
-      passes (headChecks ws)
-      (le-ltb (length ws) 2 (omega (arith, h .size)),
-      (no-difference _ _ (h .kind),
-      (no-difference _ _ (h .spare), (ne-eqb (registers ws) 0 (λ e. omega (arith, h .some)), (le-ltb _ _ (h .most), (le-ltb _ _ (h .few), (no-difference _ _ (h .size), tt)))))))
+      passes (headChecks (word ws 0) (length ws)) (
+        le-ltb (length ws) 2 (omega (arith, h .size)),
+        (
+          no-difference _ _ (h .kind),
+          (no-difference _ _ (h .spare), (ne-eqb (registers ws) 0 (λ e. omega (arith, h .some)), (le-ltb _ _ (h .most), (le-ltb _ _ (h .few), (no-difference _ _ (h .size), tt))))),
+        ),
+      )
 
   module _ (at : ℕ) where
     end-in : firstFault (endChecks ws at) ≡ None → EndIn ws at
@@ -159,7 +173,7 @@ module _ (ws : List ℕ) where
 
   pub list-in : firstFault (listChecks ws) ≡ None → ListIn
   list-in e =
-      let body = both-pass (headChecks ws) (bodyChecks ws) e in
+      let body = both-pass (headChecks (word ws 0) (length ws)) (bodyChecks ws (registers ws) (pairCount ws)) e in
       let rest = both-pass (eachCheck (pairChecks ws (registers ws)) 0 (pairCount ws)) (endChecks ws (pairPlace (pairCount ws))) (body .1) in
       record {
         head = head-in (body .0);
@@ -170,14 +184,14 @@ module _ (ws : List ℕ) where
     where
       parts : (k : ℕ) → firstFault (eachCheck (pairChecks ws (registers ws)) 0 (pairCount ws)) ≡ None → k < pairCount ws
           → (firstFault (kindChecks (word ws (pairPlace k)) (word ws (pairPlace k + 1)) (word ws (pairPlace k + 2)) (pairPlace k)) ≡ None)
-              × (firstFault (valueChecks (registers ws) (pairAt ws k) (pairPlace k) (pairPlace k + 1) (pairPlace k + 2)) ≡ None)
+          × (firstFault (valueChecks (registers ws) (pairAt ws k) (pairPlace k) (pairPlace k + 1) (pairPlace k + 2)) ≡ None)
       parts k e h =
           let z : 0 + k ≡ k = omega arith in
           both-pass _ _ (rw z at (each-passes (pairChecks ws (registers ws)) 0 (pairCount ws) e k h))
 
   pub list-pass : ListIn → firstFault (listChecks ws) ≡ None
   list-pass l =
-      pass-both (headChecks ws) (bodyChecks ws) (head-pass (l .head))
+      pass-both (headChecks (word ws 0) (length ws)) (bodyChecks ws (registers ws) (pairCount ws)) (head-pass (l .head))
       (pass-both (eachCheck (pairChecks ws (registers ws)) 0 (pairCount ws)) (endChecks ws (pairPlace (pairCount ws)))
       (all-pass (pairChecks ws (registers ws)) 0 (pairCount ws) each)
       (end-pass _ (l .end)))
@@ -193,8 +207,14 @@ module _ (ws : List ℕ) where
   -- ---- its pairs
 
   -- pair k stands in the list
-  pub pair-place : (k : ℕ) → PairIn ws k → pairPlace k + 3 < length ws
-  pair-place k p = omega (arith, accepted-in (p .accepted) .head .size, p .below)
+  pub record Stands (k : ℕ) : Type 0 where
+    pub few : k < maxPairs
+    pub room : pairPlace k + 3 < length ws
+
+  pub stands : (k : ℕ) → PairIn ws k → Stands k
+  stands k p =
+      let h = accepted-in (p .accepted) .head in
+      record { few = omega (arith, h .few, p .below); room = omega (arith, h .size, p .below) }
 
   pub is-pair : (k : ℕ) → PairIn ws k → IsPair ws k (pairAt ws k)
   is-pair k p =
@@ -213,8 +233,8 @@ module _ (ws : List ℕ) where
   pub pairs-in-range : IsAccepted ws → Each (InRange (registers ws)) (pairs ws)
   pairs-in-range a =
       each-pair (InRange (registers ws)) (λ k h.
-          let v = accepted-in a .values k h in
-          record { launch = v .launch; capture = v .capture })
+      let v = accepted-in a .values k h in
+      record { launch = v .launch; capture = v .capture })
 
   pub pairs-within : IsAccepted ws → Each (λ p. p .greatest ≤ maxDelay) (pairs ws)
   pairs-within a = each-pair (λ p. p .greatest ≤ maxDelay) (λ k h. accepted-in a .values k h .limit)

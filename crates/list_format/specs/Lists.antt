@@ -55,16 +55,16 @@ pairs ws = pairsFrom ws 0 (pairCount ws)
 abbrev pub differ : ℕ → ℕ → Bool
 differ a b = not (eqb a b)
 
--- 11: fewer than two words. 12: the head. 11: not as many words as the head asks for
-abbrev pub headChecks : List ℕ → List Check
-headChecks ws =
-    (ltb (length ws) 2, 11, 0)
-    ∷ (differ (kindOf (word ws 0)) 1, 12, 0)
-    ∷ (differ (headSpare (word ws 0)) 0, 12, 0)
-    ∷ (eqb (registers ws) 0, 12, 0)
-    ∷ (ltb maxRegisters (registers ws), 12, 0)
-    ∷ (ltb maxPairs (pairCount ws), 12, 0)
-    ∷ (differ (length ws) (pairPlace (pairCount ws) + 1), 11, 0)
+-- 11: fewer than two words. 12: the head word. 11: not as many words as the head asks for
+abbrev pub headChecks : ℕ → ℕ → List Check
+headChecks head len =
+    (ltb len 2, 11, 0)
+    ∷ (differ (kindOf head) 1, 12, 0)
+    ∷ (differ (headSpare head) 0, 12, 0)
+    ∷ (eqb (headRegisters head) 0, 12, 0)
+    ∷ (ltb maxRegisters (headRegisters head), 12, 0)
+    ∷ (ltb maxPairs (headPairs head), 12, 0)
+    ∷ (differ len (pairPlace (headPairs head) + 1), 11, 0)
     ∷ []
 
 -- 13: the three words of a pair, of which the first stands at `at`
@@ -100,12 +100,12 @@ endChecks ws at =
     ∷ (differ (payloadOf (word ws at)) (checksum (take at ws)), 17, at)
     ∷ []
 
--- what stands after the head: pair by pair, then the end
-abbrev pub bodyChecks : List ℕ → List Check
-bodyChecks ws = eachCheck (pairChecks ws (registers ws)) 0 (pairCount ws) ++ endChecks ws (pairPlace (pairCount ws))
+-- what stands after the head in a list of n registers and m pairs: pair by pair, then the end
+abbrev pub bodyChecks : List ℕ → ℕ → ℕ → List Check
+bodyChecks ws n m = eachCheck (pairChecks ws n) 0 m ++ endChecks ws (pairPlace m)
 
 abbrev pub listChecks : List ℕ → List Check
-listChecks ws = headChecks ws ++ bodyChecks ws
+listChecks ws = headChecks (word ws 0) (length ws) ++ bodyChecks ws (registers ws) (pairCount ws)
 
 -- ---- the verdict
 

@@ -1,9 +1,9 @@
 -- Laws of a run of checks.
-use Prim.Native.Nat.{ℕ, zero, suc, _+_, _-_, _<_}
+use Prim.Native.Nat.{ℕ, zero, suc, _+_, _-_, _<_, _≤_}
 use mathlib.Core.Bool.{Bool, true, false}
 use mathlib.Core.List.{List, [], _∷_, _++_, append-assoc}
 use mathlib.Core.Path.{_≡_, refl, ap, sym, _∙_}
-use native.Mathlib.Nat.{sub-self}
+use native.Mathlib.Nat.{sub-zero}
 use native.Mathlib.Omega.{arith}
 use Rattle.refusals.specs.Checks.{Check, orCheck, faultAfter, firstFault, eachCheck}
 use Rattle.refusals.specs.declared.Fault.{Fault}
@@ -59,30 +59,39 @@ unfolding orCheck faultAfter
 passes [] h = refl
 passes ((b, number, place) ∷ cs) h = rw (h .0) (passes cs (h .1))
 
--- ---- a walk that makes the checks of one thing after another: what is left decides the whole
-module _ (f : ℕ → List Check) (after : List Check) where
-  -- the checks from thing i on, of m things, and then the others
-  abbrev pub left : ℕ → ℕ → List Check
-  left m i = eachCheck f i (m - i) ++ after
+-- ---- a loop that makes the checks of one thing after another: what is left decides the whole
 
-  one-more : (m i : ℕ) → i < m → left m i ≡ f i ++ left m (i + 1)
+module _ (f : ℕ → List Check) (after : List Check) (m : ℕ) where
+  -- the checks of thing k and later ones, then the others
+  abbrev left : ℕ → List Check
+  left k = eachCheck f k (m - k) ++ after
+
+  -- k of the m things have passed
+  pub record Walking (k : ℕ) : Type 0 where
+    pub bound : k ≤ m
+    pub same : firstFault (eachCheck f 0 m ++ after) ≡ firstFault (left k)
+
+  pub walking-start : Walking 0
+  walking-start = record { bound = omega arith; same = rw sub-zero }
+
+  one-more : (k : ℕ) → k < m → left k ≡ f k ++ left (k + 1)
   unfolding eachCheck
-  one-more m i h =
-      let e : m - i ≡ suc (m - (i + 1)) = omega arith in
-      rw e (append-assoc (f i) (eachCheck f (i + 1) (m - (i + 1))) after)
+  one-more k h =
+      let e : m - k ≡ suc (m - (k + 1)) = omega arith in
+      rw e (append-assoc (f k) (eachCheck f (k + 1) (m - (k + 1))) after)
 
-  -- thing i passes
-  pub walk-on : (m i : ℕ) → i < m → firstFault (f i) ≡ None → firstFault (left m i) ≡ firstFault (left m (i + 1))
-  walk-on m i h e = ap firstFault (one-more m i h) ∙ pass-first (f i) (left m (i + 1)) e
+  module _ {k : ℕ} (w : Walking k) where
+    pub walking-turn : k < m → firstFault (f k) ≡ None → Walking (k + 1)
+    walking-turn h e = record { bound = omega arith; same = w .same ∙ ap firstFault (one-more k h) ∙ pass-first (f k) (left (k + 1)) e }
 
-  -- thing i is refused
-  pub walk-stops : (m i : ℕ) → i < m → {number place : ℕ} → firstFault (f i) ≡ At number place → firstFault (left m i) ≡ At number place
-  walk-stops m i h e = ap firstFault (one-more m i h) ∙ stop-first (f i) (left m (i + 1)) e
+    pub walking-stops : k < m → {number place : ℕ} → firstFault (f k) ≡ At number place → firstFault (eachCheck f 0 m ++ after) ≡ At number place
+    walking-stops h e = w .same ∙ ap firstFault (one-more k h) ∙ stop-first (f k) (left (k + 1)) e
 
-  -- none is left
-  pub walk-ends : (m : ℕ) → firstFault (left m m) ≡ firstFault after
-  unfolding eachCheck
-  walk-ends m = rw (sub-self m)
+    pub walking-end : m ≤ k → firstFault (eachCheck f 0 m ++ after) ≡ firstFault after
+    unfolding eachCheck
+    walking-end h =
+        let z : m - k ≡ 0 = omega arith in
+        w .same ∙ rw z
 
 -- all pass exactly if each does
 pub each-passes : (f : ℕ → List Check) (i k : ℕ) → firstFault (eachCheck f i k) ≡ None → (j : ℕ) → j < k → firstFault (f (i + j)) ≡ None

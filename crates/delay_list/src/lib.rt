@@ -1,0 +1,155 @@
+// Whether a run of words is a delay list, and the pairs of an accepted one.
+// The contracts cite `list_format`: where a pair stands, what it is, and every check in its order.
+ghost use mathlib.Core.Path.{_≡_};
+ghost use Prim.Native.Nat.{_+_, _*_, _^_, _<_, _≤_};
+ghost use lib.ListN.{length};
+ghost use Rattle.refusals.specs.Checks.{firstFault, faultAfter};
+ghost use Rattle.list_format.specs.Lists.{word, pairPlace, pairOf, headChecks, kindChecks, valueChecks, pairChecks, endChecks, bodyChecks, PairIn, IsPair};
+ghost use Rattle.list_format.specs.Lists.{verdict as verdictOf};
+use list_format::Verdict;
+use refusals::Fault;
+use timing::Pair;
+
+// The place of the first word of pair k.
+fn pair_place(k: usize) -> usize
+    requires { ⌜ k ≤ 4096 ⌝ }
+    ensures { λ r. ⌜ r ≡ pairPlace k ⌝ }
+{
+    3 * k + 1
+}
+
+// The pair that three words make.
+fn pair_of(pair: u32, least: u32, greatest: u32) -> Pair
+    ensures { λ r. ⌜ r ≡ pairOf pair least greatest ⌝ }
+{
+    Pair {
+        launch: words::launch(pair),
+        capture: words::capture(pair),
+        least: words::payload(least),
+        greatest: words::payload(greatest),
+    }
+}
+
+// 11 and 12: the head word, and the count of words against it.
+fn head_fault(head: u32, len: usize) -> Fault
+    ensures { λ r. ⌜ r ≡ firstFault (headChecks head len) ⌝ }
+{
+    let n = words::head_registers(head);
+    let m = words::head_pairs(head) as usize;
+    Fault::None
+        .or(len < 2, 11, 0)
+        .or(words::kind(head) != 1, 12, 0)
+        .or(words::head_spare(head) != 0, 12, 0)
+        .or(n == 0, 12, 0)
+        .or(n > timing::MAX_REGISTERS, 12, 0)
+        .or(m > timing::MAX_PAIRS, 12, 0)
+        .or(len != pair_place(m) + 1, 11, 0)
+}
+
+// 13: the three words of a pair, of which the first stands at `at`.
+fn kind_fault(pair: u32, least: u32, greatest: u32, at: usize) -> Fault
+    requires { ⌜ at < 2 ^ 32 ⌝ }
+    ensures { λ r. ⌜ r ≡ firstFault (kindChecks pair least greatest at) ⌝ }
+{
+    Fault::None
+        .or(words::kind(pair) != 2, 13, at)
+        .or(words::pair_spare(pair) != 0, 13, at)
+        .or(words::kind(least) != 3, 13, at + 1)
+        .or(words::kind(greatest) != 4, 13, at + 2)
+}
+
+// 14, 15, 16: the values of a pair in a list of n registers, after what was found before.
+pub fn value_fault(
+    found: Fault,
+    n: u32,
+    p: Pair,
+    at: usize,
+    least_at: usize,
+    greatest_at: usize,
+) -> Fault
+    ensures { λ r. ⌜ r ≡ faultAfter found (valueChecks n p at «least_at» «greatest_at») ⌝ }
+{
+    found
+        .or(p.launch >= n, 14, at)
+        .or(p.capture >= n, 14, at)
+        .or(p.least > timing::MAX_DELAY, 15, least_at)
+        .or(p.greatest > timing::MAX_DELAY, 15, greatest_at)
+        .or(p.least > p.greatest, 16, greatest_at)
+}
+
+// All checks of pair k.
+fn pair_fault(words: &[u32], n: u32, k: usize) -> Fault
+    requires { ⌜ (k < 4096) × (pairPlace k + 3 ≤ length (now words)) ⌝ }
+    ensures { λ r. ⌜ r ≡ firstFault (pairChecks (now (words .entry)) n k) ⌝ }
+{
+    let at = pair_place(k);
+    let pair = words[at];
+    let least = words[at + 1];
+    let greatest = words[at + 2];
+    let found = kind_fault(pair, least, greatest, at);
+    let p = pair_of(pair, least, greatest);
+    value_fault(found, n, p, at, at + 1, at + 2)
+}
+
+// 13 and 17: the end word, which stands at `at`.
+fn end_fault(words: &[u32], at: usize) -> Fault
+    requires { ⌜ at < length (now words) ⌝ }
+    ensures { λ r. ⌜ r ≡ firstFault (endChecks (now (words .entry)) at) ⌝ }
+{
+    let last = words[at];
+    let sum = words::end_payload(words, at);
+    Fault::None
+        .or(words::kind(last) != 7, 13, at)
+        .or(words::payload(last) != sum, 17, at)
+}
+
+// The checks of all that stands after the head: pair by pair, then the end.
+fn body_fault(words: &[u32], n: u32, m: usize) -> Fault
+    requires { ⌜ (m < 4096) × (length (now words) ≡ pairPlace m + 1) ⌝ }
+    ensures { λ r. ⌜ r ≡ firstFault (bodyChecks (now (words .entry)) n m) ⌝ }
+{
+    let mut k = 0;
+    while k < m {
+        let found = pair_fault(words, n, k);
+        if let Fault::At(number, place) = found {
+            return Fault::At(number, place);
+        }
+        k += 1;
+    }
+    end_fault(words, pair_place(m))
+}
+
+// The first word, or 0 if there is none.
+fn first_word(words: &[u32]) -> u32
+    ensures { λ r. ⌜ r ≡ word (now (words .entry)) 0 ⌝ }
+{
+    if 0 < words.len() {
+        return words[0];
+    }
+    0
+}
+
+// The counts of registers and pairs, or the first refusal with its place.
+pub fn verdict(words: &[u32]) -> Verdict
+    ensures { λ r. ⌜ r ≡ verdictOf (now (words .entry)) ⌝ }
+{
+    let head = first_word(words);
+    if let Fault::At(number, place) = head_fault(head, words.len()) {
+        return Verdict::Refused(number, place);
+    }
+    let n = words::head_registers(head);
+    let m = words::head_pairs(head);
+    match body_fault(words, n, m as usize) {
+        Fault::At(number, place) => Verdict::Refused(number, place),
+        Fault::None => Verdict::Accepted(n, m),
+    }
+}
+
+// Pair k of an accepted list.
+pub fn pair_at(words: &[u32], k: usize) -> Pair
+    requires { ⌜ PairIn (now words) k ⌝ }
+    ensures { λ r. ⌜ IsPair (now (words .entry)) k r ⌝ }
+{
+    let at = pair_place(k);
+    pair_of(words[at], words[at + 1], words[at + 2])
+}
