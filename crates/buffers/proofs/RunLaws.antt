@@ -4,9 +4,10 @@ use mathlib.Core.List.{List, [], _∷_, _++_}
 use mathlib.Core.Logic.{_⊎_, inl, inr}
 use Prim.Native.Nat.{ℕ, zero, suc, _+_, _*_, _<_, _≤_}
 use native.Mathlib.Nat.{eq-or-lt-of-le, le-of-suc-le-suc, mul-zero, mul-suc, mul-le-mul-left}
+use native.Mathlib.Numerals.{add-one}
 use native.Mathlib.Omega.{arith}
 use lib.ListN.{length, getD, take, drop, length-append, List·getD-append}
-use lib.Seq.{take-all, take-add, getD-append-add}
+use lib.Seq.{take-all, take-add, drop-cons, getD-append-add}
 use Rattle.buffers.specs.Run.{run}
 
 module _ (f : ℕ → List ℕ) (w : ℕ) (wide : (k : ℕ) → length (f k) ≡ w) where
@@ -27,12 +28,27 @@ module _ (f : ℕ → List ℕ) (w : ℕ) (wide : (k : ℕ) → length (f k) ≡
           let inside : w * k + j < length (run f m) = omega (arith, run-length m, mul-le-mul-left w b, mul-suc w k) in
           List·getD-append (run f m) (f m) 0 (w * k + j) inside ∙ before b l
 
-  -- they make up xs, if each is the stretch of xs at its place
+  -- they make up a list, if each is the stretch of it at its place
   module _ (xs : List ℕ) (m : ℕ) (each : (k : ℕ) → k < m → f k ≡ take w (drop (w * k) xs)) where
     upTo : (k : ℕ) → k ≤ m → run f k ≡ take (w * k) xs
     unfolding run
     upTo zero h = rw mul-zero
     upTo (suc k) h = rw (upTo k (omega arith), each k h, mul-suc, take-add)
 
+    pub run-front : run f m ≡ take (w * m) xs
+    run-front = upTo m (omega arith)
+
     pub run-is : length xs ≡ w * m → run f m ≡ xs
-    run-is e = upTo m (omega arith) ∙ take-all (w * m) xs (omega arith)
+    run-is e = run-front ∙ take-all (w * m) xs (omega arith)
+
+-- ---- a stretch of a list, number by number
+
+-- w numbers from place i on
+abbrev pub stretch : ℕ → List ℕ → ℕ → List ℕ
+stretch zero xs i = []
+stretch (suc w) xs i = getD xs i 0 ∷ stretch w xs (i + 1)
+
+pub take-stretch : (w : ℕ) (xs : List ℕ) (i : ℕ) → i + w ≤ length xs → take w (drop i xs) ≡ stretch w xs i
+take-stretch zero xs i h = refl
+take-stretch (suc w) xs i h =
+    rw (drop-cons xs i 0 (omega arith), ← add-one i, take-stretch w xs (i + 1) (omega arith))

@@ -98,10 +98,10 @@ pub record EndIn (ws : List ℕ) (at : ℕ) : Type 0 where
   pub kind : kindOf (word ws at) ≡ 7
   pub payload : payloadOf (word ws at) ≡ checksum (take at ws)
 
-same : (a b : ℕ) → differ a b ≡ Bool.false → a ≡ b
+pub same : (a b : ℕ) → differ a b ≡ Bool.false → a ≡ b
 same a b e = eqb-true a b (not-false _ e)
 
-no-difference : (a b : ℕ) → a ≡ b → differ a b ≡ Bool.false
+pub no-difference : (a b : ℕ) → a ≡ b → differ a b ≡ Bool.false
 no-difference a b e = ap not (eq-eqb a b e)
 
 module _ (n : ℕ) (p : Pair) (at leastAt greatestAt : ℕ) where

@@ -1,3 +1,4 @@
 pub mod Lists
 pub mod Read
 pub mod Write
+pub mod RoundTrip
