@@ -5,8 +5,8 @@ use Prim.Native.Nat.{ℕ, suc, _+_, _*_, _≤_, _<_}
 use native.Mathlib.Nat.{mul-le-mul-left, mul-suc}
 use native.Mathlib.Numerals.{add-one}
 use native.Mathlib.Omega.{arith}
-use lib.ListN.{length, take, drop, set, length-append, length-drop}
-use lib.Seq.{take-at, drop-append-add, drop-drop, set-split, sets, sets-eq}
+use lib.ListN.{length, take, drop, set, length-append, length-drop, take-append-drop}
+use lib.Seq.{length-take-le, take-at, drop-append-add, drop-drop, set-split, sets, sets-eq}
 use Rattle.buffers.specs.Run.{run}
 use Rattle.buffers.specs.Over.{over}
 use Rattle.buffers.proofs.RunLaws.{run-length}
@@ -18,6 +18,12 @@ pub record Filled (xs was now : List ℕ) : Type 0 where
 
 pub filled-none : (was : List ℕ) → Filled [] was was
 filled-none was = record { room = omega arith; is = refl }
+
+-- its first k places count as filled with what stands there
+pub filled-self : (k : ℕ) (was : List ℕ) → k ≤ length was → Filled (take k was) was was
+filled-self k was h =
+    let e = length-take-le k was h in
+    record { room = omega (arith, e); is = rw e (sym (take-append-drop k was)) }
 
 module _ {xs was now : List ℕ} (f : Filled xs was now) where
   -- the buffer keeps its length
@@ -74,3 +80,8 @@ module _ {before : List ℕ} {f : ℕ → List ℕ} {m : ℕ} {was now : List �
         let fits : at + length (f k) ≤ length was = omega (arith, wide k, filling-room) in
         let put : after ≡ take at now ++ (f k ++ drop (at + length (f k)) now) = rw (wide k) s in
         record { bound = omega arith; filled = rw (add-one, ← append-assoc before (run f k) (f k)) (filled-put (h .filled) (f k) after place fits put) }
+
+-- a store in the first place, and then what follows it
+pub over-first : (was xs : List ℕ) (v : ℕ) → 0 < length was → over (take 1 (set was 0 v) ++ xs) (set was 0 v) ≡ over (v ∷ xs) was
+over-first [] xs v h = absurd (omega arith)
+over-first (w ∷ was) xs v h = refl

@@ -10,8 +10,8 @@ use list_format::Verdict;
 use refusals::Fault;
 use timing::Pair;
 
-// The place of the first word of pair k.
-fn pair_place(k: usize) -> usize
+// The place of the first word of pair k; for k = m, that of the end word.
+pub fn pair_place(k: usize) -> usize
     requires { ⌜ k ≤ 4096 ⌝ }
     ensures { λ r. ⌜ r ≡ pairPlace k ⌝ }
 {

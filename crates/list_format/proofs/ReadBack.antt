@@ -84,14 +84,14 @@ module _ (ws : List ℕ) (l : ListIn ws) where
   -- the writer refuses none of it
   checks-back : (room : ℕ) → length ws ≤ room → firstFault (writeChecks (registers ws) (numbersOf ws) room) ≡ None
   checks-back room h =
-      pass-both (countChecks (registers ws) (numbersOf ws)) _ counts
+      pass-both (countChecks (registers ws) (length (numbersOf ws))) _ counts
       (pass-both (eachCheck (givenChecks (registers ws) (numbersOf ws)) 0 (givenCount (numbersOf ws))) _
       (all-pass (givenChecks (registers ws) (numbersOf ws)) 0 (givenCount (numbersOf ws)) each)
       (passes _ (le-ltb room (pairPlace (givenCount (numbersOf ws)) + 1) (omega (arith, l .head .size, count-is)), tt)))
     where
-      counts : firstFault (countChecks (registers ws) (numbersOf ws)) ≡ None
+      counts : firstFault (countChecks (registers ws) (length (numbersOf ws))) ≡ None
       counts =
-          passes (countChecks (registers ws) (numbersOf ws)) (
+          passes (countChecks (registers ws) (length (numbersOf ws))) (
             no-difference (length (numbersOf ws) % 4) 0 (omega (arith, numbers-length)),
             (
               ne-eqb (registers ws) 0 (λ e. omega (arith, l .head .some)),

@@ -19,7 +19,7 @@ use Rattle.refusals.specs.declared.Fault.the-variants.{None}
 use Rattle.refusals.proofs.CheckLaws.{both-pass, pass-both, passed, passes, each-passes}
 use Rattle.list_format.specs.Lists.{word, registers, pairCount, pairPlace, pairOf, pairAt, listChecks}
 use Rattle.list_format.specs.Read.{fourOf, numbersOf, readChecks, reading}
-use Rattle.list_format.specs.Write.{givenCount, givenPair, threeOf, openList, closed, wordsOf, countChecks, givenChecks, writeChecks}
+use Rattle.list_format.specs.Write.{givenCount, givenPair, FitsWords, threeOf, openList, closed, wordsOf, countChecks, givenChecks, writeChecks}
 use Rattle.list_format.proofs.ListLaws.{HeadIn, KindsIn, ValuesIn, EndIn, ListIn, same, values-in, list-pass}
 
 -- what the writer's checks leave: as many numbers as four a pair, counts and values in range
@@ -32,8 +32,8 @@ pub record GivenIn (n : ℕ) (xs : List ℕ) : Type 0 where
 
 pub given-in : (n : ℕ) (xs : List ℕ) (room : ℕ) → firstFault (writeChecks n xs room) ≡ None → GivenIn n xs
 given-in n xs room e =
-    let body = both-pass (countChecks n xs) _ e in
-    let h = passed (countChecks n xs) (body .0) in
+    let body = both-pass (countChecks n (length xs)) _ e in
+    let h = passed (countChecks n (length xs)) (body .0) in
     let rest = both-pass (eachCheck (givenChecks n xs) 0 (givenCount xs)) _ (body .1) in
     record {
       size = omega (arith, same (length xs % 4) 0 (h .0));
@@ -46,10 +46,10 @@ given-in n xs room e =
     }
 
 module _ (n : ℕ) (xs : List ℕ) (g : GivenIn n xs) where
-  open-length : length (openList n xs (givenCount xs)) ≡ pairPlace (givenCount xs)
+  pub open-length : length (openList n xs (givenCount xs)) ≡ pairPlace (givenCount xs)
   open-length = rw (run-length (λ k. threeOf (givenPair xs k)) 3 (λ k. refl) (givenCount xs)) (omega arith)
 
-  words-length : length (wordsOf n xs) ≡ pairPlace (givenCount xs) + 1
+  pub words-length : length (wordsOf n xs) ≡ pairPlace (givenCount xs) + 1
   words-length = length-append (openList n xs (givenCount xs)) _ ∙ ap (λ k. k + 1) open-length
 
   -- the counts
@@ -70,14 +70,18 @@ module _ (n : ℕ) (xs : List ℕ) (g : GivenIn n xs) where
         let z : pairPlace k + 0 ≡ pairPlace k = omega arith in
         rw z at (three-at k 0 h (omega arith))
 
+    pub given-fits : FitsWords (givenPair xs k)
+    given-fits =
+        let v = g .values k h in
+        record {
+          launch = omega (arith, v .launch, g .most);
+          capture = omega (arith, v .capture, g .most);
+          least = omega (arith, v .order, v .limit);
+          greatest = omega (arith, v .limit);
+        }
+
     word-is : PairWordIs (givenPair xs k .launch) (givenPair xs k .capture) (pairWord (givenPair xs k .launch) (givenPair xs k .capture))
-    word-is = pair-of-word _ _ (omega (arith, g .values k h .launch, g .most)) (omega (arith, g .values k h .capture, g .most))
-
-    least-fits : givenPair xs k .least < 2 ^ 29
-    least-fits = omega (arith, g .values k h .order, g .values k h .limit)
-
-    greatest-fits : givenPair xs k .greatest < 2 ^ 29
-    greatest-fits = omega (arith, g .values k h .limit)
+    word-is = pair-of-word _ _ (given-fits .launch) (given-fits .capture)
 
     pair-is : pairAt (wordsOf n xs) k ≡ givenPair xs k
     pair-is =
@@ -87,8 +91,8 @@ module _ (n : ℕ) (xs : List ℕ) (g : GivenIn n xs) where
           three-at k 2 h (omega arith),
           word-is .launched,
           word-is .captured,
-          payload-of-word 3 (givenPair xs k .least) least-fits,
-          payload-of-word 4 (givenPair xs k .greatest) greatest-fits,
+          payload-of-word 3 (givenPair xs k .least) (given-fits .least),
+          payload-of-word 4 (givenPair xs k .greatest) (given-fits .greatest),
         )
 
     kinds-are : KindsIn (word (wordsOf n xs) (pairPlace k)) (word (wordsOf n xs) (pairPlace k + 1)) (word (wordsOf n xs) (pairPlace k + 2))
@@ -96,8 +100,8 @@ module _ (n : ℕ) (xs : List ℕ) (g : GivenIn n xs) where
         record {
           kind = ap kindOf first-is ∙ word-is .kind;
           spare = rw first-is (word-is .spare);
-          leastKind = ap kindOf (three-at k 1 h (omega arith)) ∙ kind-of-word 3 (givenPair xs k .least) least-fits;
-          greatestKind = ap kindOf (three-at k 2 h (omega arith)) ∙ kind-of-word 4 (givenPair xs k .greatest) greatest-fits;
+          leastKind = ap kindOf (three-at k 1 h (omega arith)) ∙ kind-of-word 3 (givenPair xs k .least) (given-fits .least);
+          greatestKind = ap kindOf (three-at k 2 h (omega arith)) ∙ kind-of-word 4 (givenPair xs k .greatest) (given-fits .greatest);
         }
 
   -- the end word

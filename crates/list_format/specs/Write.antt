@@ -1,5 +1,5 @@
 -- Writing a delay list from plain numbers: n, and launch, capture, least and greatest of each pair.
-use Prim.Native.Nat.{ℕ, _+_, _*_, _/_, _%_}
+use Prim.Native.Nat.{ℕ, _+_, _*_, _/_, _%_, _^_, _<_}
 use mathlib.Core.List.{List, [], _∷_, _++_}
 use lib.Dec.{ltb, eqb}
 use lib.ListN.{length, getD}
@@ -24,6 +24,13 @@ givenPair xs k = pair (getD xs (4 * k) 0) (getD xs (4 * k + 1) 0) (getD xs (4 * 
 
 -- ---- the words
 
+-- the values of a pair fit their fields
+pub record FitsWords (p : Pair) : Type 0 where
+  pub launch : p .launch < 2 ^ 10
+  pub capture : p .capture < 2 ^ 10
+  pub least : p .least < 2 ^ 29
+  pub greatest : p .greatest < 2 ^ 29
+
 abbrev pub threeOf : Pair → List ℕ
 threeOf p = pairWord (p .launch) (p .capture) ∷ leastWord (p .least) ∷ greatestWord (p .greatest) ∷ []
 
@@ -42,22 +49,24 @@ wordsOf n xs = closed (openList n xs (givenCount xs))
 -- ---- the checks, in order
 
 -- 11: the numbers are not four for each pair. 12: n or m out of range
-abbrev pub countChecks : ℕ → List ℕ → List Check
-countChecks n xs =
-    (differ (length xs % 4) 0, 11, 0)
+abbrev pub countChecks : ℕ → ℕ → List Check
+countChecks n len =
+    (differ (len % 4) 0, 11, 0)
     ∷ (eqb n 0, 12, 0)
     ∷ (ltb maxRegisters n, 12, 0)
-    ∷ (ltb maxPairs (givenCount xs), 12, 0)
+    ∷ (ltb maxPairs (len / 4), 12, 0)
     ∷ []
 
 -- 14, 15, 16, the place being the pair's index
 abbrev pub givenChecks : ℕ → List ℕ → ℕ → List Check
 givenChecks n xs k = valueChecks n (givenPair xs k) k k k
 
--- then 2: an answer buffer of fewer than 3m + 2 places
+-- all m pairs, then 2: an answer buffer of fewer than 3m + 2 places
+abbrev pub givenBody : ℕ → List ℕ → ℕ → ℕ → List Check
+givenBody n xs m room = eachCheck (givenChecks n xs) 0 m ++ ((ltb room (pairPlace m + 1), 2, 0) ∷ [])
+
 abbrev pub writeChecks : ℕ → List ℕ → ℕ → List Check
-writeChecks n xs room =
-    countChecks n xs ++ (eachCheck (givenChecks n xs) 0 (givenCount xs) ++ ((ltb room (pairPlace (givenCount xs) + 1), 2, 0) ∷ []))
+writeChecks n xs room = countChecks n (length xs) ++ givenBody n xs (givenCount xs) room
 
 -- writing into `room` places: the count of words is returned, and that many places are filled
 unfoldable pub writing : ℕ → List ℕ → ℕ → Outcome

@@ -1,0 +1,54 @@
+// Job 1, reading: a delay list into plain numbers, four for each pair.
+// The contract cites `list_format`: `specs/Read.antt` for the outcome, `specs/RoundTrip.antt` for the whole promise.
+ghost use mathlib.Core.Path.{_≡_};
+ghost use mathlib.Core.List.{_++_};
+ghost use Prim.Native.Nat.{_+_, _*_, _≤_};
+ghost use lib.ListN.{length, take, drop};
+ghost use Rattle.buffers.specs.Over.{over};
+ghost use Rattle.list_format.specs.Lists.{pairCount, IsAccepted};
+ghost use Rattle.list_format.specs.Read.{fourOf, numbersOf};
+ghost use Rattle.list_format.specs.RoundTrip.{ReadAs};
+use list_format::Reading;
+use list_format::Verdict;
+use timing::Pair;
+
+// The four numbers of a pair, stored from `at` on.
+fn put(answer: &mut [u32], at: usize, p: Pair)
+    requires { ⌜ at + 4 ≤ length (now answer) ⌝ }
+    ensures { λ _. ⌜ now (answer .exit) ≡ take at (now (answer .entry)) ++ (fourOf p ++ drop (at + 4) (now (answer .entry))) ⌝ }
+{
+    answer[at] = p.launch;
+    answer[at + 1] = p.capture;
+    answer[at + 2] = p.least;
+    answer[at + 3] = p.greatest;
+}
+
+// The numbers of all m pairs of an accepted list, in the first places of the buffer.
+fn fill(words: &[u32], m: usize, answer: &mut [u32])
+    requires { ⌜ IsAccepted (now words) × ((m ≡ pairCount (now words)) × (4 * m ≤ length (now answer))) ⌝ }
+    ensures { λ _. ⌜ now (answer .exit) ≡ over (numbersOf (now (words .entry))) (now (answer .entry)) ⌝ }
+{
+    let mut k = 0;
+    while k < m {
+        put(answer, 4 * k, delay_list::pair_at(words, k));
+        k += 1;
+    }
+}
+
+// Reads a delay list. The counts of registers and pairs are returned, and the first places of the buffer
+// hold launch, capture, least and greatest of each pair; later places keep their contents. A refusal changes nothing.
+pub fn read(words: &[u32], answer: &mut [u32]) -> Reading
+    ensures { λ r. ⌜ ReadAs (now (words .entry)) (now (answer .entry)) (now (answer .exit)) r ⌝ }
+{
+    match delay_list::verdict(words) {
+        Verdict::Refused(number, place) => Reading::Refused(number, place),
+        Verdict::Accepted(n, m) => {
+            let count = m as usize;
+            if answer.len() < 4 * count {
+                return Reading::Refused(2, 0);
+            }
+            fill(words, count, answer);
+            Reading::Read(n, m)
+        }
+    }
+}

@@ -1,0 +1,35 @@
+use lib.ListN.{length}
+use Rattle.timing.specs.Limits.{maxPairs}
+use Rattle.list_format.specs.Write.{givenCount, countChecks}
+use Prim.Native.Nat.{_≤_}
+-- The counts decide, or else the pairs and the room.
+use mathlib.Core.Path.{sym, _∙_}
+use native.Mathlib.Omega.{arith}
+use borrow.Author.Tests.{ltb-false}
+use Rattle.refusals.proofs.CheckLaws.{stop-first, pass-first, passed}
+use borrow.Author.Needs.{needs}
+use Rattle.write_list.proofs.write_fault.Statement.{statement}
+use Rattle.write_list.proofs.write_fault.Tie as tie
+
+body-fault-requires : tie.Need-body-fault-requires
+body-fault-requires c κs =
+    let h = passed (countChecks (c .before .before .before .before .args .n) (length (c .before .before .before .before .args .numbers .now))) (sym (c .before .before .count-fault .ensures) ∙ c .enum-told .given .1) in
+    let few : givenCount (c .before .before .before .before .args .numbers .now) ≤ maxPairs = ltb-false _ _ (h .1 .1 .1 .0) in
+    omega arith
+
+returns : tie.Need-returns
+returns c = sym (stop-first _ _ (sym (c .before .before .before .count-fault .ensures) ∙ c .before .number .given .1))
+
+returns-2 : tie.Need-returns-2
+returns-2 c = c .body-fault .ensures ∙ sym (pass-first _ _ (sym (c .before .before .before .count-fault .ensures) ∙ c .before .enum-told .given .1))
+
+pub write-fault-spec : {M : Type 1} → statement M
+write-fault-spec =
+    tie.close
+    (tie.spec
+    (λ c κs. search needs)
+    (λ c. search needs)
+    (λ c. search needs)
+    body-fault-requires
+    returns
+    returns-2)
