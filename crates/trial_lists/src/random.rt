@@ -1,0 +1,61 @@
+// Numbers that look random, and lists of them.
+ghost use Prim.Native.Nat.{_<_, _≤_};
+
+// The next number of the run: below 2^31 - 1.
+pub fn next(seed: u64) -> u64
+    ensures { λ r. ⌜ r < 2147483647 ⌝ }
+{
+    (seed % 2147483647) * 48271 % 2147483647
+}
+
+// A number from 0 to most.
+pub fn up_to(seed: u64, most: u32) -> u32
+    ensures { λ r. ⌜ r ≤ most ⌝ }
+{
+    (seed % ((most as u64) + 1)) as u32
+}
+
+// Four numbers from `at` on, if there is room.
+fn put(numbers: &mut [u32], at: usize, a: u32, b: u32, c: u32, d: u32) {
+    if numbers.len() < 4 {
+        return;
+    }
+    if numbers.len() - 4 < at {
+        return;
+    }
+    numbers[at] = a;
+    numbers[at + 1] = b;
+    numbers[at + 2] = c;
+    numbers[at + 3] = d;
+}
+
+// A pair of registers up to `last`, stored from `at` on. The answer is the next seed.
+fn pair(seed: u64, last: u32, at: usize, numbers: &mut [u32]) -> u64 {
+    let a = next(seed);
+    let b = next(a);
+    let c = next(b);
+    let d = next(c);
+    let greatest = up_to(c, timing::MAX_DELAY);
+    put(
+        numbers,
+        at,
+        up_to(a, last),
+        up_to(b, last),
+        up_to(d, greatest),
+        greatest,
+    );
+    d
+}
+
+// The numbers of `m` pairs. The answer is the next seed.
+pub fn pairs(seed: u64, last: u32, m: usize, numbers: &mut [u32]) -> u64
+    requires { ⌜ m ≤ 2048 ⌝ }
+{
+    let mut s = seed;
+    let mut k = 0;
+    while k < m {
+        s = pair(s, last, 4 * k, numbers);
+        k += 1;
+    }
+    s
+}
