@@ -1,6 +1,7 @@
 -- What a call comes to: a refusal, or the numbers returned and what the answer buffer then holds.
 use Prim.Native.Nat.{ℕ}
 use mathlib.Core.List.{List}
+use lib.ListN.{replicate}
 use Rattle.buffers.specs.Over.{over}
 use Rattle.refusals.specs.Checks.{Check, firstFault}
 use Rattle.refusals.specs.declared.Fault.{Fault}
@@ -24,6 +25,11 @@ replyOf (done returned stored) = numbers returned
 unfoldable pub bufferAfter : Outcome → List ℕ → List ℕ
 bufferAfter (refused number place) buffer = buffer
 bufferAfter (done returned stored) buffer = over stored buffer
+
+-- the scratch afterwards, of which a call takes the first k places: a refusal keeps it whole, any other result leaves zeros there
+unfoldable pub scratchAfter : Outcome → ℕ → List ℕ → List ℕ
+scratchAfter (refused number place) k scratch = scratch
+scratchAfter (done returned stored) k scratch = over (replicate k 0) scratch
 
 -- the first check that fails refuses; else the outcome
 unfoldable pub unless : Fault → Outcome → Outcome

@@ -1,0 +1,57 @@
+-- Setup and hold are rules of one kind: a list of pairs as a list of rules.
+use mathlib.Core.Bool.{true}
+use mathlib.Core.List.{List, [], _∷_}
+use mathlib.Core.Path.{_≡_}
+use Prim.Native.Nat.{ℕ, _+_, _≤_, _<_}
+use native.Mathlib.Omega.{arith}
+use Rattle.timing.specs.declared.Pair.{Pair}
+use Rattle.timing.specs.Rules.{time, admissible, Each, InRange}
+use Rattle.timing.proofs.RuleLaws.{admissible-sound, admissible-complete}
+
+-- time src + gain ≤ time dst + slack
+pub record Rule : Type 0 where
+  pub src : ℕ
+  pub dst : ℕ
+  pub gain : ℕ
+  pub slack : ℕ
+
+-- times of the registers that meet a rule
+abbrev pub Meets : (ℕ → ℕ) → Rule → Type 0
+Meets f r = f (r .src) + r .gain ≤ f (r .dst) + r .slack
+
+abbrev pub setup : ℕ → Pair → Rule
+setup t p = record { src = p .launch; dst = p .capture; gain = p .greatest; slack = t }
+
+abbrev pub hold : Pair → Rule
+hold p = record { src = p .capture; dst = p .launch; gain = 0; slack = p .least }
+
+-- both rules of each pair
+abbrev pub rules : ℕ → List Pair → List Rule
+rules t [] = []
+rules t (p ∷ ps) = setup t p ∷ hold p ∷ rules t ps
+
+-- both ends among the first n registers
+abbrev pub Within : ℕ → Rule → Type 0
+Within n r = (r .src < n) × (r .dst < n)
+
+-- a property of each rule, from what holds of each pair
+pub each-rule : {P : Pair → Type 0} (Q : Rule → Type 0) (t : ℕ) → ((p : Pair) → P p → Q (setup t p) × Q (hold p)) → (ps : List Pair) → Each P ps → Each Q (rules t ps)
+each-rule Q t f [] h = tt
+each-rule Q t f (p ∷ ps) h = (f p (h .0) .0, (f p (h .0) .1, each-rule Q t f ps (h .1)))
+
+-- and back
+pub each-pair : {P : Pair → Type 0} (Q : Rule → Type 0) (t : ℕ) → ((p : Pair) → Q (setup t p) → Q (hold p) → P p) → (ps : List Pair) → Each Q (rules t ps) → Each P ps
+each-pair Q t f [] h = tt
+each-pair Q t f (p ∷ ps) h = (f p (h .0) (h .1 .0), each-pair Q t f ps (h .1 .1))
+
+pub within : (n t : ℕ) (ps : List Pair) → Each (InRange n) ps → Each (Within n) (rules t ps)
+within n t = each-rule (Within n) t (λ p h. ((h .launch, h .capture), (h .capture, h .launch)))
+
+-- the test and the rules say the same
+module _ (t : ℕ) (ps : List Pair) (s : List ℕ) where
+  pub admissible→meets : admissible t ps s ≡ true → Each (Meets (time s)) (rules t ps)
+  admissible→meets e = each-rule (Meets (time s)) t (λ p m. (m .setup, omega (arith, m .hold))) ps (admissible-sound t s ps e)
+
+  pub meets→admissible : Each (Meets (time s)) (rules t ps) → admissible t ps s ≡ true
+  meets→admissible m =
+      admissible-complete t s ps (each-pair (Meets (time s)) t (λ p a b. record { setup = a; hold = omega arith }) ps m)

@@ -1,0 +1,108 @@
+-- Raising a schedule as far as the rules ask, one rule after the other.
+use mathlib.Core.List.{List, [], _∷_}
+use mathlib.Core.Path.{_≡_, refl, _∙_}
+use Prim.Native.Nat.{ℕ, zero, suc, _+_, _-_, _≤_, _<_, max, min, zero-le}
+use native.Mathlib.Nat.{le-refl, le-trans}
+use native.Mathlib.Omega.{arith}
+use lib.ListN.{length, set, length-set}
+use lib.Seq.{getD-set-same}
+use Rattle.timing.specs.Rules.{time, Each}
+use Rattle.free_laws.specs.Free.{raise, zeros}
+use Rattle.free_laws.proofs.Lists.{each-map, each-all}
+use Rattle.free_laws.proofs.RuleList.{Rule, Meets, Within}
+
+-- no register of x is later than in f
+abbrev pub Below : List ℕ → (ℕ → ℕ) → Type 0
+Below x f = (r : ℕ) → time x r ≤ f r
+
+pub zeros-below : (n : ℕ) (f : ℕ → ℕ) → Below (zeros n) f
+zeros-below zero f r = zero-le
+zeros-below (suc n) f zero = zero-le
+zeros-below (suc n) f (suc r) = zeros-below n (λ q. f (suc q)) r
+
+pub set-up : (x : List ℕ) (i v j : ℕ) → time x i ≤ v → time x j ≤ time (set x i v) j
+set-up [] i v j h = zero-le
+set-up (a ∷ x) zero v zero h = h
+set-up (a ∷ x) zero v (suc j) h = le-refl (time x j)
+set-up (a ∷ x) (suc i) v zero h = le-refl a
+set-up (a ∷ x) (suc i) v (suc j) h = set-up x i v j h
+
+pub set-below : (x : List ℕ) (i v j : ℕ) (f : ℕ → ℕ) → time x j ≤ f j → v ≤ f i → time (set x i v) j ≤ f j
+set-below [] i v j f h k = h
+set-below (a ∷ x) zero v zero f h k = k
+set-below (a ∷ x) zero v (suc j) f h k = h
+set-below (a ∷ x) (suc i) v zero f h k = h
+set-below (a ∷ x) (suc i) v (suc j) f h k = set-below x i v j (λ r. f (suc r)) h k
+
+-- ---- one rule
+
+-- what the rule asks of its destination
+abbrev pub ask : Rule → List ℕ → ℕ
+ask r x = time x (r .src) + r .gain - r .slack
+
+-- y has the destination as late as the rule asks of x, or at the cap c
+abbrev pub Reach : ℕ → List ℕ → List ℕ → Rule → Type 0
+Reach c x y r = min c (ask r x) ≤ time y (r .dst)
+
+pub reach-more : (c : ℕ) (x x′ y y′ : List ℕ) (r : Rule) → Below x (time x′) → Below y (time y′) → Reach c x′ y r → Reach c x y′ r
+reach-more c x x′ y y′ r a b h = omega (arith, a (r .src), b (r .dst))
+
+-- y is x with the destination raised, no further than the rule asks
+pub record Obeyed (c : ℕ) (r : Rule) (x y : List ℕ) : Type 0 where
+  pub size : length y ≡ length x
+  pub up : Below x (time y)
+  pub low : (f : ℕ → ℕ) → Meets f r → Below x f → Below y f
+  pub reach : Reach c x y r
+
+pub obeyed : (c : ℕ) (r : Rule) (x : List ℕ) (v : ℕ) → r .dst < length x → time x (r .dst) ≤ v → v ≤ max (time x (r .dst)) (ask r x)
+    → min c (ask r x) ≤ v → Obeyed c r x (set x (r .dst) v)
+obeyed c r x v h up far near =
+    record {
+      size = length-set x (r .dst) v;
+      up = λ j. set-up x (r .dst) v j up;
+      low = λ f m b j. set-below x (r .dst) v j f (b j) (omega (arith, b (r .src), b (r .dst)));
+      reach = rw (getD-set-same x (r .dst) v 0 h) near;
+    }
+
+-- ---- a round
+
+-- y is x after a round over the rules, in any order
+pub record Round (c : ℕ) (rs : List Rule) (x y : List ℕ) : Type 0 where
+  pub size : length y ≡ length x
+  pub up : Below x (time y)
+  pub low : (f : ℕ → ℕ) → Each (Meets f) rs → Below x f → Below y f
+  pub reach : Each (Reach c x y) rs
+
+-- the destination raised as far as the rule asks
+abbrev pub obey : Rule → List ℕ → List ℕ
+obey r x = raise (r .dst) (ask r x) x
+
+-- each rule once, in order
+unfoldable pub sweep : List Rule → List ℕ → List ℕ
+sweep [] x = x
+sweep (r ∷ rs) x = sweep rs (obey r x)
+
+unfoldable pub sweeps : ℕ → List Rule → List ℕ → List ℕ
+sweeps zero rs x = x
+sweeps (suc k) rs x = sweep rs (sweeps k rs x)
+
+pub sweep-round : (c n : ℕ) (rs : List Rule) (x : List ℕ) → Each (Within n) rs → length x ≡ n → Round c rs x (sweep rs x)
+unfolding sweep
+sweep-round c n [] x w l = record { size = refl; up = λ j. le-refl _; low = λ f m b. b; reach = tt }
+sweep-round c n (r ∷ rs) x w l =
+    let o = obeyed c r x (max (time x (r .dst)) (ask r x)) (omega (arith, w .0 .1)) (omega arith) (omega arith) (omega arith) in
+    let s = sweep-round c n rs (obey r x) (w .1) (o .size ∙ l) in
+    record {
+      size = s .size ∙ o .size;
+      up = λ j. le-trans (o .up j) (s .up j);
+      low = λ f m b. s .low f (m .1) (o .low f (m .0) b);
+      reach = (
+        reach-more c x x (obey r x) (sweep rs (obey r x)) r (λ j. le-refl _) (s .up) (o .reach),
+        each-map (λ q. reach-more c x (obey r x) (sweep rs (obey r x)) (sweep rs (obey r x)) q (o .up) (λ j. le-refl _)) rs (s .reach),
+      );
+    }
+
+-- what a round leaves as it is meets the rules
+pub still-meets : (n : ℕ) (rs : List Rule) (x : List ℕ) → Each (Within n) rs → length x ≡ n → sweep rs x ≡ x → Each (Meets (time x)) rs
+still-meets n rs x w l e =
+    each-map (λ r h. omega (arith, h (ask r x))) rs (each-all (λ c. Reach c x x) rs (λ c. rw e at (sweep-round c n rs x w l .reach)))

@@ -1,0 +1,88 @@
+-- The places that are lent and come back filled, and the answer case by case.
+use Prim.Native.Nat.{ℕ, _≤_, _<_}
+use mathlib.Core.Bool.{true, false}
+use mathlib.Core.List.{List, [], _∷_, _++_}
+use mathlib.Core.Path.{_≡_, ap, sym, _∙_}
+use native.Mathlib.Omega.{arith}
+use borrow.Author.Tests.{lt-ltb, le-ltb}
+use lib.Dec.{ltb}
+use lib.ListN.{length, take, drop}
+use lib.Seq.{length-take-le, take-at}
+use Rattle.refusals.specs.Reply.{refused, done, replyOf, bufferAfter}
+use Rattle.refusals.proofs.ReplyLaws.{one-fails, one-passes, first-refused, then-refused, then-done}
+use Rattle.list_format.specs.Lists.{registers, pairs, listChecks, verdict}
+use Rattle.list_format.specs.declared.Verdict.the-variants as Verdict
+use Rattle.list_format.proofs.ListLaws.{refused→fault, accepted→none, none→accepted, pairs-in-range}
+use Rattle.free_laws.specs.Free.{common, freePeriod, freeSchedule}
+use Rattle.free_laws.specs.Unbeaten.{UnbeatenFree}
+use Rattle.free_laws.proofs.UnbeatenLaws.{free-unbeaten}
+use Rattle.checker.specs.Check.{Ready}
+use Rattle.climb.specs.Trial.{Climbed}
+use Rattle.free_schedule.specs.FreeCall.{roomChecks, freeing, freeReply, FreeAs, Counted, Roomy, FreeIn}
+use Rattle.free_schedule.specs.declared.FreeAnswer.the-variants.{Periods, Refused}
+
+-- ---- the answer buffer
+
+module _ {ws : List ℕ} {n count : ℕ} {was : List ℕ} (r : Roomy ws n count was) where
+  pub lent-size : n ≡ length (take n was)
+  lent-size = sym (length-take-le n was (r .room))
+
+  pub lent-ready : Ready ws count (take n was)
+  lent-ready =
+      record { accepted = r .counted .accepted; counted = r .counted .pairsAre; timed = sym lent-size ∙ r .counted .registersAre }
+
+  unbeaten-here : UnbeatenFree (registers ws) (pairs ws) (freePeriod (registers ws) (pairs ws)) (freeSchedule (registers ws) (pairs ws))
+  unbeaten-here = free-unbeaten (registers ws) (pairs ws) (pairs-in-range ws (r .counted .accepted))
+
+  -- what was lent comes back filled
+  pub lent-back : {x : List ℕ} {t : ℕ} → Climbed ws x t → FreeIn ws was (x ++ drop n was) t
+  lent-back c =
+      record {
+        period = c .period;
+        places = rw (c .schedule, unbeaten-here .size, r .counted .registersAre);
+      }
+
+  -- the answer, with a place for each register
+  pub settled : {common′ free : ℕ} {now : List ℕ} → common′ ≡ common (pairs ws) → FreeIn ws was now free → FreeAs ws was now (Periods common′ free)
+  unfolding freeing replyOf bufferAfter freeReply
+  settled {common′} {free} {now} c f =
+      let a = accepted→none ws (r .counted .accepted) in
+      let room : registers ws ≤ length was = omega (arith, r .room, r .counted .registersAre) in
+      let e : freeing ws (length was) ≡ done (common (pairs ws) ∷ freePeriod (registers ws) (pairs ws) ∷ []) (freeSchedule (registers ws) (pairs ws))
+      = then-done (listChecks ws) (roomChecks (registers ws) (length was)) _ (a .none) (one-passes 2 0 (le-ltb _ _ room)) in
+      record {
+        reply = rw (e, c, f .period);
+        buffer = rw e (f .places);
+        unbeaten = λ c₁ f₁ q.
+            let same : f₁ ≡ freePeriod (registers ws) (pairs ws) = (let z : f₁ ≡ free = cc in z ∙ f .period) in
+            rw (same, f .places, take-at (freeSchedule (registers ws) (pairs ws)) (drop (length (freeSchedule (registers ws) (pairs ws))) was) (registers ws) (unbeaten-here .size))
+            unbeaten-here;
+      }
+
+module _ (ws was : List ℕ) where
+  -- a refusal changes nothing
+  refuses : {number place : ℕ} → freeing ws (length was) ≡ refused number place → FreeAs ws was was (Refused number place)
+  unfolding replyOf bufferAfter freeReply
+  refuses e =
+      record {
+        reply = rw e;
+        buffer = rw e;
+        unbeaten = λ common free q. let z : _≡_ {A = ℕ} 0 1 = cc in absurd (omega arith);
+      }
+
+  -- the list is refused
+  pub list-stops : {number place : ℕ} → verdict ws ≡ Verdict.Refused number place → FreeAs ws was was (Refused number place)
+  unfolding freeing
+  list-stops e = refuses (first-refused (listChecks ws) _ _ (refused→fault ws e))
+
+  -- too few places
+  pub too-small : {n count : ℕ} → Counted ws n count → length was < n → FreeAs ws was was (Refused 2 0)
+  unfolding freeing
+  too-small c h =
+      let small : length was < registers ws = omega (arith, c .registersAre) in
+      refuses (then-refused (listChecks ws) _ _ (accepted→none ws (c .accepted) .none) (one-fails (lt-ltb _ _ small)))
+
+pub list-counts : (ws : List ℕ) {n m : ℕ} → verdict ws ≡ Verdict.Accepted n m → Counted ws n m
+list-counts ws e =
+    let a = accepted→none ws e in
+    record { accepted = none→accepted ws (a .none); registersAre = a .registersAre; pairsAre = a .pairsAre }

@@ -1,0 +1,44 @@
+// The common period, the free period and the free schedule of a delay list.
+// The contracts cite `specs/FreeCall.antt`, and the definitions of `free_laws`.
+ghost use mathlib.Core.Path.{_≡_};
+ghost use lib.ListN.{length};
+ghost use Rattle.free_schedule.specs.FreeCall.{FreeAs, Counted, Roomy, FreeIn};
+use list_format::Verdict;
+
+// The common and the free period, or a refusal with its place.
+pub enum FreeAnswer {
+    Periods(u32, u32),
+    Refused(u32, usize),
+}
+
+// The free period of an accepted list of n registers; the free schedule fills the first n places.
+fn fill(words: &[u32], n: usize, count: usize, answer: &mut [u32]) -> u32
+    requires { ⌜ Roomy (now words) n count (now answer) ⌝ }
+    ensures { λ r. ⌜ FreeIn (now (words .entry)) (now (answer .entry)) (now (answer .exit)) r ⌝ }
+{
+    climb::climb(words, count, &mut answer[..n])
+}
+
+// The answer for an accepted list of n registers.
+fn settle(words: &[u32], n: usize, count: usize, answer: &mut [u32]) -> FreeAnswer
+    requires { ⌜ Counted (now words) n count ⌝ }
+    ensures { λ r. ⌜ FreeAs (now (words .entry)) (now (answer .entry)) (now (answer .exit)) r ⌝ }
+{
+    if answer.len() < n {
+        return FreeAnswer::Refused(2, 0);
+    }
+    let common = climb::common(words, count);
+    let free = fill(words, n, count, answer);
+    FreeAnswer::Periods(common, free)
+}
+
+// Refusals 11 to 17 of the list, then 2: an answer buffer of fewer than n places. Else the common and the free period;
+// the free schedule fills the first n places, and the later ones keep their contents.
+pub fn free(words: &[u32], answer: &mut [u32]) -> FreeAnswer
+    ensures { λ r. ⌜ FreeAs (now (words .entry)) (now (answer .entry)) (now (answer .exit)) r ⌝ }
+{
+    match delay_list::verdict(words) {
+        Verdict::Refused(number, place) => FreeAnswer::Refused(number, place),
+        Verdict::Accepted(n, m) => settle(words, n as usize, m as usize, answer),
+    }
+}

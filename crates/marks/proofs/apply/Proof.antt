@@ -1,0 +1,17 @@
+-- `apply`: both halves of the row, one after the other.
+use Rattle.split_laws.proofs.MarkLaws.{applied}
+use borrow.Author.Needs.{needs}
+use Rattle.marks.proofs.apply.Statement.{statement}
+use Rattle.marks.proofs.apply.Tie as tie
+
+returns-2 : tie.Need-returns-2
+returns-2 c =
+    let v = c .before .before .before in
+    let w = v .before .before .before .before in
+    let r = w .before .before in
+    applied (r .before .before .before .pre .2) (r .before .if1 .left) (r .row-at .ensures) (c .join .ensures) (w .follow .ensures) (v .follow2 .ensures)
+
+pub apply-spec : {M : Type 1} → statement M
+apply-spec =
+    tie.close
+    (tie.spec (λ c. search needs) (λ c κs. search needs) (λ c κs. search needs) (λ c κs. search needs) (λ c κs. search needs) (λ c. search needs) returns-2)

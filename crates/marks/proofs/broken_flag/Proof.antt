@@ -1,0 +1,27 @@
+-- `broken_flag`: the pair's rules at the times of the row's choices.
+use mathlib.Core.Path.{sym, _∙_}
+use Rattle.split_laws.proofs.TableLaws.{flag-is}
+use borrow.Author.Needs.{needs}
+use Rattle.marks.proofs.broken_flag.Statement.{statement}
+use Rattle.marks.proofs.broken_flag.Tie as tie
+
+returns : tie.Need-returns
+returns c =
+    let w = c .before in
+    let r = w .before .before .before in
+    let a = r .before .args in
+    flag-is (a .period) (a .offset) (a .pair) (a .k) (r .row-at .ensures) (w .before .before .time-of .ensures) (w .before .time-of2 .ensures)
+    (sym (w .meets .ensures) ∙ c .if1 .taken)
+
+returns-2 : tie.Need-returns-2
+returns-2 c =
+    let w = c .before in
+    let r = w .before .before .before in
+    let a = r .before .args in
+    flag-is (a .period) (a .offset) (a .pair) (a .k) (r .row-at .ensures) (w .before .before .time-of .ensures) (w .before .time-of2 .ensures)
+    (sym (w .meets .ensures) ∙ c .if1 .left)
+
+pub broken-flag-spec : {M : Type 1} → statement M
+broken-flag-spec =
+    tie.close
+    (tie.spec (λ c κs. search needs) (λ c κs. search needs) (λ c κs. search needs) (λ c κs. search needs) returns returns-2)

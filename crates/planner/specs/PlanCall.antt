@@ -1,0 +1,48 @@
+-- What a call for the full plan comes to.
+use Prim.Native.Nat.{ℕ, _*_}
+use mathlib.Core.List.{List, [], _∷_, _++_}
+use mathlib.Core.Path.{_≡_}
+use lib.Dec.{ltb}
+use lib.ListN.{length, take, drop}
+use Rattle.timing.specs.Limits.{scratchPlaces}
+use Rattle.refusals.specs.Checks.{Check}
+use Rattle.refusals.specs.Reply.{Reply, refusal, numbers, Outcome, done, replyOf, bufferAfter, scratchAfter, answered}
+use Rattle.list_format.specs.Lists.{registers, pairCount, pairs, listChecks}
+use Rattle.free_laws.specs.Free.{common, freePeriod, freeSchedule}
+use Rattle.plan_laws.specs.Plan.{twoPeriod, twoOffset, twoTimings}
+use Rattle.plan_laws.specs.Unbeaten.{Unbeaten}
+use Rattle.planner.specs.declared.Planning.{Planning}
+use Rattle.planner.specs.declared.Planning.the-variants.{Planned, Refused}
+
+-- 2: an answer buffer of fewer than 2n places. 1: too little scratch
+abbrev pub callChecks : ℕ → ℕ → ℕ → ℕ → List Check
+callChecks n m room spare =
+    (ltb room (2 * n), 2, 0)
+    ∷ (ltb spare (scratchPlaces n m), 1, 0)
+    ∷ []
+
+-- 11 to 17, then 2, 1
+abbrev pub planChecks : List ℕ → ℕ → ℕ → List Check
+planChecks ws room spare = listChecks ws ++ callChecks (registers ws) (pairCount ws) room spare
+
+-- three periods and the offset are returned; the free timings fill n places, the split's timings the next n
+unfoldable pub planning : List ℕ → ℕ → ℕ → Outcome
+planning ws room spare =
+    answered (planChecks ws room spare)
+    (done
+    (common (pairs ws) ∷ freePeriod (registers ws) (pairs ws) ∷ twoPeriod (registers ws) (pairs ws) ∷ twoOffset (registers ws) (pairs ws) ∷ [])
+    (freeSchedule (registers ws) (pairs ws) ++ twoTimings (registers ws) (pairs ws)))
+
+-- the number and values of each case of the answer
+unfoldable pub planReply : Planning → Reply
+planReply (Planned common free two offset) = numbers (common ∷ free ∷ two ∷ offset ∷ [])
+planReply (Refused number place) = refusal number place
+
+-- the call with the words ws: what is returned, and each place of both buffers, for every input
+pub record PlanAs (ws answer answer′ scratch scratch′ : List ℕ) (r : Planning) : Type 0 where
+  pub reply : planReply r ≡ replyOf (planning ws (length answer) (length scratch))
+  pub stored : answer′ ≡ bufferAfter (planning ws (length answer) (length scratch)) answer
+  pub left : scratch′ ≡ scratchAfter (planning ws (length answer) (length scratch)) (scratchPlaces (registers ws) (pairCount ws)) scratch
+  -- no rival beats the numbers returned and the timings in the first 2n places
+  pub unbeaten : (common free two offset : ℕ) → r ≡ Planned common free two offset
+      → Unbeaten (registers ws) (pairs ws) common free two offset (take (registers ws) answer′) (take (registers ws) (drop (registers ws) answer′))

@@ -1,0 +1,78 @@
+-- From a blank scratch to the first split.
+use mathlib.Core.Path.{_≡_, refl, sym, _∙_, ap}
+use mathlib.Core.Bool.{Bool, true, false}
+use mathlib.Core.List.{List, _++_}
+use Prim.Native.Nat.{ℕ, zero, suc, _+_, _-_, _*_}
+use native.Mathlib.Omega.{arith}
+use lib.ListN.{length, getD, take, drop, replicate, length-append, length-drop, length-replicate}
+use lib.Seq.{drop-at, take-at, take-take, take-append-le, drop-drop, length-take-le}
+use Rattle.buffers.specs.Over.{over}
+use Rattle.list_format.specs.Lists.{pairCount, pairs}
+use Rattle.list_format.proofs.ListLaws.{each-pair}
+use Rattle.split_laws.specs.Split.{works, firstSplit}
+use Rattle.split_laws.specs.Marks.{Agrees, splitOf, Closed}
+use Rattle.split_laws.proofs.ClosureLaws.{first-none, first-found}
+use Rattle.propagate.specs.Store.{flagsTo, Ready, Prepared, Decided, chosen}
+use Rattle.propagate.specs.Passes.{Working, Propagated}
+use Rattle.propagate.proofs.StoreLaws.{drop-further, flags-length, recorded, brought-back}
+
+module _ (t s : ℕ) (ws : List ℕ) (n : ℕ) where
+  -- ---- the marks cleared, and the flags recorded in the part lent
+  pub prepared : (S : List ℕ) {S₁ F : List ℕ} → Ready ws n S → S₁ ≡ replicate n 0 ++ drop n S
+      → F ≡ over (flagsTo t s ws (4 * pairCount ws)) (take (length S₁ - 6 * n) (drop (6 * n) S₁))
+      → Prepared t s ws n S (take (6 * n) S₁ ++ (F ++ drop (length S₁ - 6 * n) (drop (6 * n) S₁)))
+  prepared S {S₁} {F} ready e f = rw is (record {
+    size = simp (length-append, length-drop) (omega (arith, size₁, front, width, ready .room));
+    blank = take-append-le n (take (6 * n) S₁) behind (omega (arith, front)) ∙ take-take n (6 * n) S₁ (omega arith) ∙ ap (take n) e
+        ∙ take-at (replicate n 0) (drop n S) n (length-replicate n 0);
+    flags = rw (drop-at (take (6 * n) S₁) behind (6 * n) front) (recorded t s ws _);
+    rest = sym (drop-drop (4 * pairCount ws) (6 * n) (take (6 * n) S₁ ++ behind))
+        ∙ ap (drop (4 * pairCount ws)) (drop-at (take (6 * n) S₁) behind (6 * n) front)
+        ∙ drop-at (flagsTo t s ws (4 * pairCount ws)) _ (4 * pairCount ws) width
+        ∙ ap (λ (k : ℕ). drop (6 * n + k) S₁) width
+        ∙ drop-further n (6 * n + 4 * pairCount ws) S S₁ (omega arith) (ap (drop n) e ∙ drop-at (replicate n 0) (drop n S) n (length-replicate n 0));
+  })
+    where
+      behind : List ℕ
+      behind = flagsTo t s ws (4 * pairCount ws) ++ drop (6 * n + length (flagsTo t s ws (4 * pairCount ws))) S₁
+
+      width : length (flagsTo t s ws (4 * pairCount ws)) ≡ 4 * pairCount ws
+      width = flags-length t s ws (4 * pairCount ws)
+
+      size₁ : length S₁ ≡ length S
+      size₁ = ap length e ∙ simp (length-append, length-replicate, length-drop) (omega (arith, ready .room))
+
+      front : length (take (6 * n) S₁) ≡ 6 * n
+      front = length-take-le (6 * n) S₁ (omega (arith, size₁, ready .room))
+
+      is : take (6 * n) S₁ ++ (F ++ drop (length S₁ - 6 * n) (drop (6 * n) S₁)) ≡ take (6 * n) S₁ ++ behind
+      is = brought-back (6 * n) (flagsTo t s ws (4 * pairCount ws)) S₁ F f
+
+  -- ---- the passes decide
+  module _ (S S₂ : List ℕ) {S₁ : List ℕ} (ready : Ready ws n S) (start : Prepared t s ws n S S₁) where
+    working : (c : List Bool) → works t s (pairs ws) c ≡ true → Working ws (drop (6 * n) S₁) c
+    working c w = record { period = t; offset = s; flags = start .flags; works = w }
+
+    blank : (c : List Bool) → Agrees c (take n S₁)
+    blank c i z = absurd (z (ap (λ (M : List ℕ). getD M i 0) (start .blank) ∙ none n i))
+      where
+        none : (n i : ℕ) → _≡_ {A = ℕ} (getD (replicate n 0) i 0) 0
+        none zero i = refl
+        none (suc n) zero = refl
+        none (suc n) (suc i) = none n i
+
+    size : Propagated ws n S₁ S₂ true → length (take n S₂) ≡ n
+    size h = length-take-le n S₂ (omega (arith, h .carried .size, start .size, ready .room))
+
+    first-is : (r : Bool) → Propagated ws n S₁ S₂ r → firstSplit n t s (pairs ws) ≡ chosen r (splitOf (take n S₂))
+    first-is true h =
+        first-found n t s (pairs ws) (take n S₂) (size h) (each-pair ws (λ p. Closed t s p (take n S₂)) (λ k l. h .said k l t s (start .flags)))
+        (λ c w. h .carried .kept .sound c (working c w) (blank c))
+    first-is false h = first-none n t s (pairs ws) (λ c w. h .said c (working c w) (blank c))
+
+    pub decided : {r : Bool} → Propagated ws n S₁ S₂ r → Decided t s ws n S S₂ r
+    decided {r} h = record {
+      size = h .carried .size ∙ start .size;
+      rest = drop-further n (6 * n + 4 * pairCount ws) S₁ S₂ (omega arith) (h .carried .rest) ∙ start .rest;
+      first = first-is r h;
+    }

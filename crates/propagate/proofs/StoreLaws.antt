@@ -1,0 +1,94 @@
+-- Laws of the scratch of a trial: what is recorded, and the part that is lent to the recording.
+use mathlib.Core.Path.{_≡_, refl, sym, ap, _∙_}
+use mathlib.Core.List.{List, [], _∷_, _++_, append-nil}
+use Prim.Native.Nat.{ℕ, zero, suc, _+_, _-_, _*_, _/_, _%_, _≤_, _<_}
+use native.Mathlib.Omega.{arith}
+use lib.ListN.{length-map, length, getD, take, drop, length-drop, drop-of-length-le, List·getD-append}
+use lib.Seq.{ext-getD, getD-take, length-take-le, getD-drop, take-all, drop-drop}
+use Rattle.buffers.specs.Run.{run}
+use Rattle.buffers.specs.Over.{over}
+use Rattle.buffers.proofs.RunLaws.{run-length, run-at}
+use Rattle.list_format.specs.Lists.{pairCount, pairAt}
+use Rattle.split_laws.specs.Split.{timing, timings}
+use Rattle.split_laws.specs.Table.{isLate, flagAt}
+use Rattle.split_laws.specs.Marks.{splitOf, Flagged}
+use Rattle.split_laws.proofs.ClosureLaws.{time-of, length-splitOf, getD-splitOf}
+use Rattle.propagate.specs.Store.{flagsTo, fourAt, Recorded, Ready}
+
+pub ready-kept : {ws : List ℕ} {n : ℕ} {S S′ : List ℕ} → Ready ws n S → length S′ ≡ length S → Ready ws n S′
+ready-kept r e = record { accepted = r .accepted; registersAre = r .registersAre; room = rw e (r .room) }
+
+-- lists that agree from place n on agree from every later place on
+pub drop-further : (n k : ℕ) (S S′ : List ℕ) → n ≤ k → drop n S′ ≡ drop n S → drop k S′ ≡ drop k S
+drop-further n k S S′ h e =
+    let z : k ≡ n + (k - n) = omega arith in
+    rw (z, ← drop-drop (k - n) n S, ← drop-drop (k - n) n S′, e)
+
+-- ---- flags
+
+pub flags-length : (t s : ℕ) (ws : List ℕ) (q : ℕ) → length (flagsTo t s ws q) ≡ q
+flags-length t s ws q = run-length _ 1 (λ k. refl) q ∙ omega arith
+
+-- place q of what is recorded
+flag-is : (t s : ℕ) (ws after : List ℕ) (end q : ℕ) → q < end → getD (flagsTo t s ws end ++ after) q 0 ≡ flagAt t s (pairAt ws (q / 4)) (q % 4)
+flag-is t s ws after end q h =
+    let e : 1 * q + 0 ≡ q = omega arith in
+    List·getD-append (flagsTo t s ws end) after 0 q (rw (flags-length t s ws end) h)
+    ∙ (rw e at (run-at (λ k. flagAt t s (pairAt ws (k / 4)) (k % 4) ∷ []) 1 (λ k. refl) end q 0 h (omega arith)))
+
+-- what stands at place j of four
+four-at : (F : List ℕ) (at j : ℕ) → j < 4 → getD (fourAt F at) j 0 ≡ getD F (at + j) 0
+four-at F at zero h = let e : at + 0 ≡ at = omega arith in rw e
+four-at F at (suc zero) h = refl
+four-at F at (suc (suc zero)) h = refl
+four-at F at (suc (suc (suc zero))) h = refl
+four-at F at (suc (suc (suc (suc j)))) h = absurd (omega arith)
+
+pub recorded : (t s : ℕ) (ws after : List ℕ) → Recorded t s ws (flagsTo t s ws (4 * pairCount ws) ++ after)
+recorded t s ws after = record { each = each }
+  where
+    each : (k : ℕ) → k < pairCount ws → Flagged t s (pairAt ws k) (fourAt (flagsTo t s ws (4 * pairCount ws) ++ after) (4 * k))
+    each k h j l =
+        let d : (4 * k + j) / 4 ≡ k = omega arith in
+        let r : (4 * k + j) % 4 ≡ j = omega arith in
+        four-at (flagsTo t s ws (4 * pairCount ws) ++ after) (4 * k) j l
+        ∙ (rw (d, r) at (flag-is t s ws after (4 * pairCount ws) (4 * k + j) (omega arith)))
+
+-- the flags of a pair, read from the whole scratch
+pub four-drop : (cut k : ℕ) (S : List ℕ) → fourAt S (cut + 4 * k) ≡ fourAt (drop cut S) (4 * k)
+four-drop cut k S =
+    let e1 : cut + 4 * k + 1 ≡ cut + (4 * k + 1) = omega arith in
+    let e2 : cut + 4 * k + 2 ≡ cut + (4 * k + 2) = omega arith in
+    let e3 : cut + 4 * k + 3 ≡ cut + (4 * k + 3) = omega arith in
+    rw (e1, e2, e3, getD-drop cut S (4 * k) 0, getD-drop cut S (4 * k + 1) 0, getD-drop cut S (4 * k + 2) 0, getD-drop cut S (4 * k + 3) 0)
+
+-- ---- the part from `cut` on, lent and brought back with its first places filled by fs
+
+-- what is lent
+pub lent : (cut : ℕ) (S : List ℕ) → take (length S - cut) (drop cut S) ≡ drop cut S
+lent cut S = take-all (length S - cut) (drop cut S) (simp length-drop (omega arith))
+
+pub brought-back : (cut : ℕ) (fs S F : List ℕ) → F ≡ over fs (take (length S - cut) (drop cut S))
+    → take cut S ++ (F ++ drop (length S - cut) (drop cut S)) ≡ take cut S ++ (fs ++ drop (cut + length fs) S)
+brought-back cut fs S F e = rw (none, append-nil, e, lent cut S, drop-drop)
+  where
+    none : drop (length S - cut) (drop cut S) ≡ []
+    none = drop-of-length-le (drop cut S) {i = length S - cut} (simp length-drop (omega arith))
+
+-- ---- the split that the marks give, as timings
+
+pub timings-run : (s n : ℕ) (M : List ℕ) → n ≤ length M → run (λ k. timing s (isLate (getD M k 0)) ∷ []) n ≡ timings s (splitOf (take n M))
+timings-run s n M h = ext-getD 0 _ _ (size ∙ sym sizes) each
+  where
+    size : length (run (λ k. timing s (isLate (getD M k 0)) ∷ []) n) ≡ n
+    size = run-length _ 1 (λ k. refl) n ∙ omega arith
+
+    sizes : length (timings s (splitOf (take n M))) ≡ n
+    sizes = length-map (splitOf (take n M)) (timing s) ∙ length-splitOf (take n M) ∙ length-take-le n M h
+
+    each : (i : ℕ) → i < length (run (λ k. timing s (isLate (getD M k 0)) ∷ []) n) → getD (run (λ k. timing s (isLate (getD M k 0)) ∷ []) n) i 0 ≡ getD (timings s (splitOf (take n M))) i 0
+    each i l =
+        let below : i < n = omega (arith, size) in
+        let e : 1 * i + 0 ≡ i = omega arith in
+        (rw e at (run-at (λ k. timing s (isLate (getD M k 0)) ∷ []) 1 (λ k. refl) n i 0 below (omega arith)))
+        ∙ sym (time-of s (splitOf (take n M)) i ∙ ap (timing s) (getD-splitOf (take n M) i ∙ ap isLate (getD-take n M i 0 below)))

@@ -1,0 +1,11 @@
+-- `place`: from the end if down.
+use native.Mathlib.Omega.{arith}
+use borrow.Author.Needs.{needs}
+use Rattle.propagate.proofs.place.Statement.{statement}
+use Rattle.propagate.proofs.place.Tie as tie
+
+returns : tie.Need-returns
+returns c = (rw (c .if1 .taken), omega arith)
+
+pub place-spec : {M : Type 1} → statement M
+place-spec = tie.close (tie.spec (λ c. search needs) (λ c. search needs) returns (λ c. search needs))

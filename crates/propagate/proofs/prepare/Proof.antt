@@ -1,0 +1,20 @@
+-- `prepare`: the marks are cleared, and the flags recorded in the part lent.
+use denote.Ref.{now}
+use Rattle.propagate.proofs.DecideLaws.{prepared}
+use borrow.Author.Needs.{needs}
+use Rattle.propagate.proofs.prepare.Statement.{statement}
+use Rattle.propagate.proofs.prepare.Tie as tie
+
+returns : tie.Need-returns
+returns c =
+    let w = c .before .before .before .before .before .before in
+    let b = w .before .before .before .before in
+    let a = b .args in
+    prepared (a .period) (a .offset) (now (a .words)) (a .n) (now (a .scratch)) (b .pre .0) (w .clear .ensures)
+    (rw (b .pre .1) at (c .before .before .record-broken .ensures))
+
+pub prepare-spec : {M : Type 1} → statement M
+prepare-spec =
+    tie.close
+    (tie.spec (λ c κs. search needs) (λ c. search needs) (λ c. search needs) (λ c. search needs) (λ c. search needs) (λ c. search needs)
+    (λ c κs. search needs) (λ c. search needs) returns)

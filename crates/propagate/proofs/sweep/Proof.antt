@@ -1,0 +1,52 @@
+-- `sweep`: the first i pairs force nothing more.
+use denote.Ref.{now}
+use mathlib.Core.Path.{_≡_}
+use Prim.Native.Nat.{_≤_, _-_}
+use native.Mathlib.Omega.{arith}
+use Rattle.list_format.specs.Lists.{pairCount}
+use Rattle.propagate.specs.Passes.{Pass}
+use Rattle.propagate.proofs.StoreLaws.{ready-kept}
+use Rattle.propagate.proofs.PassLaws.{ClosedTo, sweep-start, sweep-turn, sweep-end}
+use borrow.Author.Needs.{needs}
+use Rattle.propagate.proofs.sweep.Statement.{statement}
+use Rattle.propagate.proofs.sweep.Tie as tie
+
+abbrev Inv-loop : tie.InvT-loop
+Inv-loop words n m down scratch₀ all₀ i₀ scratch all i = (i ≤ m) × Pass words n (ClosedTo words down i) scratch₀ scratch all
+
+abbrev μ-loop : tie.MeasureT-loop
+μ-loop words n m down scratch₀ all₀ i₀ scratch all i = m - i
+
+loop-holds : tie.Need-loop-holds Inv-loop μ-loop
+loop-holds c =
+    let a = c .before .before .args in
+    (omega arith, sweep-start (now (a .words)) (a .n) (a .down) (now (a .scratch)))
+
+step-requires : tie.Need-step-requires Inv-loop μ-loop
+step-requires c κs =
+    let l = c .before .before .before in
+    let b = l .before .before .before in
+    (ready-kept (b .pre .0) (l .loop .inv .1 .size), omega (arith, c .before .place .ensures .1, b .pre .1))
+
+loop-again : tie.Need-loop-again Inv-loop μ-loop
+loop-again c =
+    let w = c .before .before .before in
+    let l = w .before .before .before .before in
+    let b = l .before .before .before in
+    let a = b .args in
+    let at = rw (b .pre .1) at (w .before .before .place .ensures .0) in
+    (omega arith, sweep-turn (now (a .words)) (a .n) (a .down) (l .loop .i) at (c .join .ensures) (l .loop .inv .1) (w .step .ensures))
+
+returns : tie.Need-returns Inv-loop μ-loop
+returns c =
+    let l = c .before .loop in
+    let b = c .before .before .before .before in
+    let a = b .args in
+    let e : l .i ≡ pairCount (now (a .words)) = omega (arith, b .pre .1) in
+    sweep-end (now (a .words)) (a .n) (a .down) (rw e at (l .inv .1))
+
+pub sweep-spec : {M : Type 1} → statement M
+sweep-spec =
+    tie.close
+    (tie.spec Inv-loop μ-loop loop-holds (λ c κs. search needs) step-requires (λ c κs. search needs)
+    (λ c. search needs) (λ c. search needs) loop-again (λ c. search needs) returns)

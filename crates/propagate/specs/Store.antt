@@ -1,0 +1,47 @@
+-- The scratch of a trial: the marks of the n registers in its first places, and from place 6n on the broken choices of the pairs,
+-- four places to a pair.
+use mathlib.Core.Path.{_≡_}
+use mathlib.Core.Bool.{Bool, true, false}
+use mathlib.Core.List.{List, [], _∷_}
+use Prim.Native.Nat.{ℕ, _+_, _*_, _/_, _%_, _≤_, _<_}
+use lib.ListN.{length, getD, take, drop, replicate}
+use Rattle.buffers.specs.Run.{run}
+use Rattle.list_format.specs.Lists.{registers, pairCount, pairAt, pairs, IsAccepted}
+use Rattle.split_laws.specs.Split.{Found, nothing, found, firstSplit}
+use Rattle.split_laws.specs.Table.{flagAt}
+use Rattle.split_laws.specs.Marks.{Flagged, splitOf}
+
+-- the flags of the pairs at period t and offset s, one after the other: the first q of them
+abbrev pub flagsTo : ℕ → ℕ → List ℕ → ℕ → List ℕ
+flagsTo t s ws = run (λ q. flagAt t s (pairAt ws (q / 4)) (q % 4) ∷ [])
+
+-- the four numbers from place `at` on
+abbrev pub fourAt : List ℕ → ℕ → List ℕ
+fourAt xs at = getD xs at 0 ∷ getD xs (at + 1) 0 ∷ getD xs (at + 2) 0 ∷ getD xs (at + 3) 0 ∷ []
+
+-- F holds the flags of all pairs of the list, at period t and offset s
+pub record Recorded (t s : ℕ) (ws F : List ℕ) : Type 0 where
+  pub each : (k : ℕ) → k < pairCount ws → Flagged t s (pairAt ws k) (fourAt F (4 * k))
+
+-- an accepted list with n registers, and room for a trial
+pub record Ready (ws : List ℕ) (n : ℕ) (S : List ℕ) : Type 0 where
+  pub accepted : IsAccepted ws
+  pub registersAre : n ≡ registers ws
+  pub room : 6 * n + 4 * pairCount ws ≤ length S
+
+-- the marks are blank, the flags recorded, and what lies behind them is as it was
+pub record Prepared (t s : ℕ) (ws : List ℕ) (n : ℕ) (S S′ : List ℕ) : Type 0 where
+  pub size : length S′ ≡ length S
+  pub blank : take n S′ ≡ replicate n 0
+  pub flags : Recorded t s ws (drop (6 * n) S′)
+  pub rest : drop (6 * n + 4 * pairCount ws) S′ ≡ drop (6 * n + 4 * pairCount ws) S
+
+-- true: the marks give the first split; false: there is none
+abbrev pub chosen : Bool → List Bool → Found
+chosen true c = found c
+chosen false c = nothing
+
+pub record Decided (t s : ℕ) (ws : List ℕ) (n : ℕ) (S S′ : List ℕ) (r : Bool) : Type 0 where
+  pub size : length S′ ≡ length S
+  pub rest : drop (6 * n + 4 * pairCount ws) S′ ≡ drop (6 * n + 4 * pairCount ws) S
+  pub first : firstSplit n t s (pairs ws) ≡ chosen r (splitOf (take n S′))

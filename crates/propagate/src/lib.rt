@@ -1,0 +1,139 @@
+// Whether some split works at a period and an offset, for an accepted list; if so, the marks are those of the first.
+// The contracts cite `specs/Store.antt` (what the scratch holds) and `specs/Passes.antt` (what a pass promises).
+ghost use mathlib.Core.Path.{_≡_};
+ghost use mathlib.Core.List.{_++_};
+ghost use Prim.Native.Nat.{_+_, _*_, _≤_, _<_};
+ghost use lib.ListN.{length, take, drop, replicate};
+ghost use Rattle.buffers.specs.Over.{over};
+ghost use Rattle.list_format.specs.Lists.{pairCount, IsAccepted};
+ghost use Rattle.split_laws.specs.Split.{timings};
+ghost use Rattle.split_laws.specs.Marks.{splitOf};
+ghost use Rattle.propagate.specs.Store.{flagsTo, fourAt, Ready, Prepared, Decided};
+ghost use Rattle.propagate.specs.Passes.{Pass, PairClosed, AllClosed, placeOf, Propagated};
+use split_laws::Change;
+
+// The flags of a pair, from the place of the first on.
+fn flags_at(scratch: &[u32], at: usize) -> [u32; 4]
+    requires { ⌜ at + 4 ≤ length (now scratch) ⌝ }
+    ensures { λ r. ⌜ r ≡ fourAt (now (scratch .entry)) at ⌝ }
+{
+    [
+        scratch[at],
+        scratch[at + 1],
+        scratch[at + 2],
+        scratch[at + 3],
+    ]
+}
+
+// What pair k forces is followed in the marks.
+fn step(words: &[u32], n: usize, k: usize, scratch: &mut [u32]) -> Change
+    requires { ⌜ Ready (now words) n (now scratch) × (k < pairCount (now words)) ⌝ }
+    ensures { λ o. ⌜ Pass (now (words .entry)) n (PairClosed (now (words .entry)) k) (now (scratch .entry)) (now (scratch .exit)) o ⌝ }
+{
+    let pair = delay_list::pair_at(words, k);
+    let flags = flags_at(scratch, 6 * n + 4 * k);
+    marks::settle(&mut scratch[..n], pair, flags)
+}
+
+// The i-th of m places, from the end if down.
+fn place(m: usize, i: usize, down: bool) -> usize
+    requires { ⌜ i < m ⌝ }
+    ensures { λ r. ⌜ (r ≡ placeOf m down i) × (r < m) ⌝ }
+{
+    if down { m - 1 - i } else { i }
+}
+
+// One pass over all pairs.
+fn sweep(words: &[u32], n: usize, m: usize, down: bool, scratch: &mut [u32]) -> Change
+    requires { ⌜ Ready (now words) n (now scratch) × (m ≡ pairCount (now words)) ⌝ }
+    ensures { λ o. ⌜ Pass (now (words .entry)) n (AllClosed (now (words .entry))) (now (scratch .entry)) (now (scratch .exit)) o ⌝ }
+{
+    let mut all = Change::Settled;
+    let mut i = 0;
+    while i < m {
+        let o = step(words, n, place(m, i, down), scratch);
+        all = marks::join(all, o);
+        i += 1;
+    }
+    all
+}
+
+// Passes up and down the list until nothing changes: true where no pair forces more, false where a register is forced both ways.
+fn propagate(words: &[u32], n: usize, m: usize, scratch: &mut [u32]) -> bool
+    requires { ⌜ Ready (now words) n (now scratch) × (m ≡ pairCount (now words)) ⌝ }
+    ensures { λ r. ⌜ Propagated (now (words .entry)) n (now (scratch .entry)) (now (scratch .exit)) r ⌝ }
+{
+    let mut down = false;
+    loop {
+        match sweep(words, n, m, down, scratch) {
+            Change::Settled => return true,
+            Change::Clash => return false,
+            Change::Changed => {}
+        }
+        down = !down;
+    }
+}
+
+// The broken choices of all pairs, four places to a pair.
+fn record_broken(words: &[u32], period: u32, offset: u32, m: usize, flags: &mut [u32])
+    requires { ⌜ IsAccepted (now words) × (m ≡ pairCount (now words)) × (4 * m ≤ length (now flags)) ⌝ }
+    ensures { λ _. ⌜ now (flags .exit) ≡ over (flagsTo period offset (now (words .entry)) (4 * m)) (now (flags .entry)) ⌝ }
+{
+    let end = 4 * m;
+    let mut q = 0;
+    while q < end {
+        let pair = delay_list::pair_at(words, q / 4);
+        flags[q] = marks::broken_flag(pair, period, offset, q % 4);
+        q += 1;
+    }
+}
+
+// The first k places are set to 0.
+pub fn clear(places: &mut [u32], k: usize)
+    requires { ⌜ k ≤ length (now places) ⌝ }
+    ensures { λ _. ⌜ now (places .exit) ≡ replicate k 0 ++ drop k (now (places .entry)) ⌝ }
+{
+    let mut i = 0;
+    while i < k {
+        places[i] = 0;
+        i += 1;
+    }
+}
+
+// Blank marks, and the broken choices of the pairs in the part of the scratch from place 6n on.
+fn prepare(words: &[u32], period: u32, offset: u32, n: usize, m: usize, scratch: &mut [u32])
+    requires { ⌜ Ready (now words) n (now scratch) × (m ≡ pairCount (now words)) ⌝ }
+    ensures { λ _. ⌜ Prepared period offset (now (words .entry)) n (now (scratch .entry)) (now (scratch .exit)) ⌝ }
+{
+    clear(scratch, n);
+    let cut = 6 * n;
+    record_broken(words, period, offset, m, &mut scratch[cut..]);
+}
+
+// Whether some split works; if so the marks are those of the first.
+pub fn decide(
+    words: &[u32],
+    period: u32,
+    offset: u32,
+    n: usize,
+    m: usize,
+    scratch: &mut [u32],
+) -> bool
+    requires { ⌜ Ready (now words) n (now scratch) × (m ≡ pairCount (now words)) ⌝ }
+    ensures { λ r. ⌜ Decided period offset (now (words .entry)) n (now (scratch .entry)) (now (scratch .exit)) r ⌝ }
+{
+    prepare(words, period, offset, n, m, scratch);
+    propagate(words, n, m, scratch)
+}
+
+// The timings of the first n marks.
+pub fn write_split(marks: &[u32], n: usize, offset: u32, answer: &mut [u32])
+    requires { ⌜ (n ≤ length (now marks)) × (n ≤ length (now answer)) ⌝ }
+    ensures { λ _. ⌜ now (answer .exit) ≡ over (timings offset (splitOf (take n (now (marks .entry))))) (now (answer .entry)) ⌝ }
+{
+    let mut i = 0;
+    while i < n {
+        answer[i] = marks::time_of(offset, marks[i]);
+        i += 1;
+    }
+}

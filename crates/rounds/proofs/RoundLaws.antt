@@ -1,0 +1,114 @@
+-- The rules at each place of a list, and a round over them, up or down the list.
+use Prim.Native.Nat.{ℕ, _+_, _-_, _≤_, _<_, zero-le}
+use mathlib.Core.Bool.{Bool, true, false}
+use mathlib.Core.List.{List}
+use mathlib.Core.Path.{_≡_, refl, ap, sym, _∙_, subst}
+use native.Mathlib.Nat.{le-refl, le-trans}
+use native.Mathlib.Omega.{arith}
+use borrow.Author.Count.{below-more}
+use lib.ListN.{length, length-set}
+use Rattle.timing.specs.declared.Pair.{Pair}
+use Rattle.timing.specs.Rules.{time, Each, InRange}
+use Rattle.timing.specs.Limits.{maxTiming}
+use Rattle.list_format.specs.Lists.{pairCount, pairAt, pairs, PairIn, IsPair}
+use Rattle.list_format.proofs.ListLaws.{accepted-in, each-pair}
+use Rattle.free_laws.proofs.RuleList as rule-list
+use Rattle.free_laws.proofs.RuleList.{Meets, setup, hold, rules, each-rule}
+use Rattle.free_laws.proofs.Sweep.{Below, Reach, reach-more}
+use Rattle.free_laws.proofs.Rounds.{Capped}
+use Rattle.free_laws.proofs.Cycle.{Among}
+use Rattle.free_laws.proofs.Cap.{raiseTo, raise-capped, relaxTo, relaxed, RoundTo}
+use Rattle.checker.proofs.PlaceLaws.{pair-holds}
+use Rattle.rounds.specs.Raise.{Raisable, Relaxable, Raising, placeOf}
+
+-- a register raised leaves a schedule that can be raised
+pub raised : {x y : List ℕ} (r v : ℕ) → Raisable x → y ≡ raiseTo maxTiming r v x → Raisable y
+raised {x} r v h e = rw e (record { few = rw (length-set x r _) (h .few); capped = raise-capped maxTiming r v x (h .capped) })
+
+-- both rules of pair k are among the rules of the list
+pub rules-at : {ws : List ℕ} {k : ℕ} {p : Pair} → IsPair ws k p → k < pairCount ws → Among (pairs ws) p
+rules-at {ws} {k} is h t f m =
+    subst (λ (q : Pair). Meets f (setup t q) × Meets f (hold q)) (sym (is .same))
+    (pair-holds ws (λ q. Meets f (setup t q) × Meets f (hold q)) (rule-list.each-pair (Meets f) t (λ q a b. (a, b)) (pairs ws) m) k h)
+
+-- y has the registers of a pair as late as both rules ask of x
+abbrev Reached : ℕ → List ℕ → List ℕ → Pair → Type 0
+Reached t x y p = Reach maxTiming x y (setup t p) × Reach maxTiming x y (hold p)
+
+reached-more : (t : ℕ) (x x′ y y′ : List ℕ) (p : Pair) → Below x (time x′) → Below y (time y′) → Reached t x′ y p → Reached t x y′ p
+reached-more t x x′ y y′ p a b h =
+    (reach-more maxTiming x x′ y y′ (setup t p) a b (h .0), reach-more maxTiming x x′ y y′ (hold p) a b (h .1))
+
+place-in : (m i : ℕ) (down : Bool) → i < m → placeOf m down i < m
+place-in m i true h = omega arith
+place-in m i false h = h
+
+-- after i turns of a round: the pairs of i places are relaxed
+pub record Part (ws : List ℕ) (t : ℕ) (down : Bool) (x₀ x : List ℕ) (i : ℕ) : Type 0 where
+  pub bound : i ≤ pairCount ws
+  pub size : length x ≡ length x₀
+  pub capped : Capped maxTiming x
+  pub up : Below x₀ (time x)
+  pub low : (f : ℕ → ℕ) → Each (Meets f) (rules t (pairs ws)) → Below x₀ f → Below x f
+  pub reach : (j : ℕ) → j < i → Reached t x₀ x (pairAt ws (placeOf (pairCount ws) down j))
+
+module _ {ws : List ℕ} {count t : ℕ} {x₀ : List ℕ} (r : Raising ws count t x₀) (down : Bool) where
+  pub part-start : Part ws t down x₀ x₀ 0
+  part-start =
+      record { bound = zero-le; size = refl; capped = r .capped; up = λ j. le-refl _; low = λ f m b. b; reach = λ j h. absurd (omega arith) }
+
+  module _ {x : List ℕ} {i : ℕ} (s : Part ws t down x₀ x i) where
+    module _ {k : ℕ} (h : i < count) (at : k ≡ placeOf count down i) where
+      pub turn-pair : PairIn ws k
+      turn-pair = record { accepted = r .ready .accepted; below = omega (arith, r .ready .counted, place-in count i down h) }
+
+      module _ {p : Pair} (is : IsPair ws k p) where
+        inside : InRange (length x) p
+        inside = record { launch = omega (arith, is .launch, s .size, r .ready .timed); capture = omega (arith, is .capture, s .size, r .ready .timed) }
+
+        pub turn-ready : Relaxable x p t k
+        turn-ready =
+            let l = accepted-in ws (r .ready .accepted) .head in
+            record {
+              raisable = record { few = omega (arith, l .most, s .size, r .ready .timed); capped = s .capped };
+              inside = inside;
+              order = is .order;
+              limit = is .limit;
+              period = r .period;
+              place = omega (arith, l .few, turn-pair .below);
+            }
+
+        pub part-turn : {y : List ℕ} → y ≡ relaxTo maxTiming t p x → Part ws t down x₀ y (i + 1)
+        part-turn e =
+            let z : List ℕ = relaxTo maxTiming t p x in
+            let o = relaxed maxTiming t p x (s .capped) inside in
+            let pair : p ≡ pairAt ws (placeOf (pairCount ws) down i) = is .same ∙ ap (pairAt ws) (at ∙ ap (λ m. placeOf m down i) (r .ready .counted)) in
+            rw e (record {
+              bound = omega (arith, r .ready .counted);
+              size = o .size ∙ s .size;
+              capped = o .capped;
+              up = λ j. le-trans (s .up j) (o .up j);
+              low = λ f m b. let both = rules-at is (turn-pair .below) t f m in o .low f (both .0) (both .1) (s .low f m b);
+              reach = below-more (λ j. Reached t x₀ z (pairAt ws (placeOf (pairCount ws) down j))) i
+                  (λ j b. reached-more t x₀ x₀ x z (pairAt ws (placeOf (pairCount ws) down j)) (λ q. le-refl _) (o .up) (s .reach j b))
+                  (subst (Reached t x₀ z) pair (reached-more t x₀ x z z p (s .up) (λ q. le-refl _) (o .reach)));
+            })
+
+    pub part-end : count ≤ i → RoundTo maxTiming (rules t (pairs ws)) x₀ x
+    part-end h =
+        record {
+          round = record {
+            size = s .size;
+            up = s .up;
+            low = s .low;
+            reach = each-rule (Reach maxTiming x₀ x) t (λ p b. b) (pairs ws)
+                (each-pair ws (Reached t x₀ x) (λ j b. at-place down j b refl));
+          };
+          capped = s .capped;
+        }
+      where
+        at-place : (d : Bool) (j : ℕ) → j < pairCount ws → d ≡ down → Reached t x₀ x (pairAt ws j)
+        at-place false j b e = rw (sym e) at (s .reach j (omega (arith, r .ready .counted)))
+        at-place true j b e =
+            let back : pairCount ws - 1 - (pairCount ws - 1 - j) ≡ j = omega arith in
+            rw back at (rw (sym e) at (s .reach (pairCount ws - 1 - j) (omega (arith, r .ready .counted))))

@@ -1,0 +1,51 @@
+-- `round` relaxes each pair once.
+use Prim.Native.Nat.{_-_}
+use Rattle.rounds.proofs.RoundLaws.{Part, part-start, turn-pair, turn-ready, part-turn, part-end}
+use borrow.Author.Needs.{needs}
+use Rattle.rounds.proofs.round.Statement.{statement}
+use Rattle.rounds.proofs.round.Tie as tie
+
+abbrev Inv-loop : tie.InvT-loop
+Inv-loop words count x₀ parents₀ period down last₀ i₀ x parents last i = Part words period down x₀ x i
+
+abbrev μ-loop : tie.MeasureT-loop
+μ-loop words count x₀ parents₀ period down last₀ i₀ x parents last i = count - i
+
+loop-holds : tie.Need-loop-holds Inv-loop μ-loop
+loop-holds c = part-start (c .before .before .pre) (c .before .before .args .down)
+
+pair-at-requires : tie.Need-pair-at-requires Inv-loop μ-loop
+pair-at-requires c κs =
+    let b = c .before .before .before .before .before in
+    turn-pair (b .pre) (b .args .down) (c .before .before .loop .inv) (c .before .loop-test .taken) (c .place .ensures)
+
+relax-requires : tie.Need-relax-requires Inv-loop μ-loop
+relax-requires c κs =
+    let b = c .before .before .before .before .before .before .before .before in
+    turn-ready (b .pre) (b .args .down) (c .before .before .before .before .before .loop .inv) (c .before .before .before .before .loop-test .taken) (c .before .before .before .place .ensures) (c .before .before .pair-at .ensures)
+
+loop-again : tie.Need-loop-again Inv-loop μ-loop
+loop-again c =
+    let b = c .before .before .before .before .before .before .before .before .before .before .before in
+    part-turn (b .pre) (b .args .down) (c .before .before .before .before .before .before .before .before .loop .inv) (c .before .before .before .before .before .before .before .loop-test .taken) (c .before .before .before .before .before .before .place .ensures) (c .before .before .before .before .before .pair-at .ensures) (c .before .before .relax .ensures)
+
+returns : tie.Need-returns Inv-loop μ-loop
+returns c =
+    let b = c .before .before .before .before in
+    part-end (b .pre) (b .args .down) (c .before .loop .inv) (c .loop-test .left)
+
+pub round-spec : {M : Type 1} → statement M
+round-spec =
+    tie.close
+    (tie.spec
+    Inv-loop
+    μ-loop
+    loop-holds
+    (λ c κs. search needs)
+    pair-at-requires
+    relax-requires
+    (λ c. search needs)
+    (λ c. search needs)
+    loop-again
+    (λ c. search needs)
+    returns)

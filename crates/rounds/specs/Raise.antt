@@ -1,0 +1,34 @@
+-- What the functions that raise a schedule ask for.
+use Prim.Native.Nat.{ℕ, _-_, _≤_, _<_}
+use mathlib.Core.Bool.{Bool, cond}
+use mathlib.Core.List.{List}
+use lib.ListN.{length}
+use Rattle.timing.specs.declared.Pair.{Pair}
+use Rattle.timing.specs.Rules.{InRange}
+use Rattle.timing.specs.Limits.{maxRegisters, maxPairs, maxDelay, maxPeriod, maxTiming}
+use Rattle.free_laws.proofs.Rounds.{Capped}
+use Rattle.checker.specs.Check.{Ready}
+
+-- x has a timing for each of at most so many registers, none past the limit
+pub record Raisable (x : List ℕ) : Type 0 where
+  pub few : length x ≤ maxRegisters
+  pub capped : Capped maxTiming x
+
+-- pair k of a list, to be relaxed at period t
+pub record Relaxable (x : List ℕ) (p : Pair) (t k : ℕ) : Type 0 where
+  pub raisable : Raisable x
+  pub inside : InRange (length x) p
+  pub order : p .least ≤ p .greatest
+  pub limit : p .greatest ≤ maxDelay
+  pub period : t ≤ maxPeriod
+  pub place : k < maxPairs
+
+-- an accepted list, with a schedule to be raised at period t
+pub record Raising (ws : List ℕ) (count t : ℕ) (x : List ℕ) : Type 0 where
+  pub ready : Ready ws count x
+  pub capped : Capped maxTiming x
+  pub period : t ≤ maxPeriod
+
+-- the i-th of m places, from the end if down
+abbrev pub placeOf : ℕ → Bool → ℕ → ℕ
+placeOf m down i = cond down (m - 1 - i) i

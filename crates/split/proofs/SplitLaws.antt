@@ -1,0 +1,84 @@
+-- The ways that a call can end, each with the whole promise.
+use Prim.Native.Nat.{ℕ, _≤_}
+use mathlib.Core.Bool.{Bool, true, false}
+use mathlib.Core.List.{List, _++_}
+use mathlib.Core.Path.{_≡_, ap, sym, _∙_}
+use native.Mathlib.Omega.{arith}
+use lib.ListN.{length, take, drop, replicate, length-replicate}
+use borrow.Author.Tests.{ltb-false}
+use Rattle.buffers.specs.Over.{over}
+use Rattle.refusals.specs.Checks.{firstFault}
+use Rattle.refusals.specs.Reply.{refused, replyOf, bufferAfter, scratchAfter}
+use Rattle.timing.specs.Limits.{scratchPlaces}
+use Rattle.refusals.specs.declared.Fault.{Fault}
+use Rattle.refusals.specs.declared.Fault.the-variants.{None, At}
+use Rattle.refusals.proofs.CheckLaws.{pass-both, passed}
+use Rattle.refusals.proofs.ReplyLaws.{answered-done, first-refused, then-refused}
+use Rattle.list_format.specs.Lists.{registers, pairCount, pairs, listChecks, verdict}
+use Rattle.list_format.specs.declared.Verdict.the-variants.{Accepted}
+use Rattle.list_format.specs.declared.Verdict.the-variants.{Refused as ListRefused}
+use Rattle.list_format.proofs.ListLaws.{refused→fault, accepted→none, none→accepted}
+use Rattle.split_laws.specs.Split.{timings, firstSplit}
+use Rattle.split_laws.specs.Marks.{splitOf}
+use Rattle.propagate.specs.Store.{Decided, chosen}
+use Rattle.split.specs.declared.Splitting.the-variants.{Split, NoSplit, Refused}
+use Rattle.split.specs.Splitting.{callChecks, splitChecks, shown, splitting, splitReply, SplitAs, Allowed}
+
+module _ (ws : List ℕ) (period offset : ℕ) (answer scratch : List ℕ) where
+  -- a refusal changes nothing
+  kept : {number place : ℕ} → splitting ws period offset (length answer) (length scratch) ≡ refused number place
+      → SplitAs ws period offset answer answer scratch scratch (Refused number place)
+  unfolding replyOf bufferAfter scratchAfter splitReply
+  kept e = record { reply = rw e; stored = rw e; left = rw e }
+
+  -- the list is refused
+  pub list-refused : {number place : ℕ} → verdict ws ≡ ListRefused number place → SplitAs ws period offset answer answer scratch scratch (Refused number place)
+  unfolding splitting
+  list-refused v = kept (first-refused (listChecks ws) _ _ (refused→fault ws v))
+
+  -- the list is accepted, and the caller's checks decide
+  module _ {n m : ℕ} (v : verdict ws ≡ Accepted n m) {f : Fault} (e : f ≡ firstFault (callChecks n m period offset (length answer) (length scratch))) where
+    fault-is : f ≡ firstFault (callChecks (registers ws) (pairCount ws) period offset (length answer) (length scratch))
+    fault-is =
+        let a = accepted→none ws v in
+        rw (a .registersAre, a .pairsAre) at e
+
+    pub call-refused : {number place : ℕ} → f ≡ At number place → SplitAs ws period offset answer answer scratch scratch (Refused number place)
+    unfolding splitting
+    call-refused g = kept (then-refused (listChecks ws) _ _ (accepted→none ws v .none) (sym fault-is ∙ g))
+
+    pub call-allowed : f ≡ None → Allowed ws period offset n m answer scratch
+    call-allowed g =
+        let a = accepted→none ws v in
+        let call = callChecks (registers ws) (pairCount ws) period offset (length answer) (length scratch) in
+        let p = passed call (sym fault-is ∙ g) in
+        let h : registers ws ≤ length answer = ltb-false _ _ (p .1 .1 .1 .0) in
+        let k : scratchPlaces (registers ws) (pairCount ws) ≤ length scratch = ltb-false _ _ (p .1 .1 .1 .1 .0) in
+        record {
+          none = pass-both (listChecks ws) call (a .none) (sym fault-is ∙ g);
+          ready = record { accepted = none→accepted ws (a .none); registersAre = a .registersAre; room = omega (arith, a .registersAre) };
+          pairsAre = a .pairsAre;
+          room = omega (arith, a .registersAre);
+        }
+
+  -- ---- an allowed call
+  module _ {n m : ℕ} (a : Allowed ws period offset n m answer scratch) where
+    -- what the trial decided, and the scratch cleared after it
+    module _ (S S′ : List ℕ) {r : Bool} (d : Decided period offset ws n scratch S r) (cleared : S′ ≡ replicate (scratchPlaces n m) 0 ++ drop (scratchPlaces n m) S) where
+      zeros : S′ ≡ over (replicate (scratchPlaces (registers ws) (pairCount ws)) 0) scratch
+      zeros = cleared ∙ rw (length-replicate, a .pairsAre, d .rest, a .ready .registersAre)
+
+      outcome : (b : Bool) → r ≡ b → splitting ws period offset (length answer) (length scratch) ≡ shown offset (chosen b (splitOf (take n S)))
+      unfolding splitting
+      outcome b e =
+          answered-done (splitChecks ws period offset (length answer) (length scratch)) _ (a .none)
+          ∙ ap (shown offset)
+          (ap (λ (k : ℕ). firstSplit k period offset (pairs ws)) (sym (a .ready .registersAre)) ∙ d .first ∙ ap (λ (x : Bool). chosen x (splitOf (take n S))) e)
+
+      pub none-shown : r ≡ false → SplitAs ws period offset answer answer scratch S′ NoSplit
+      unfolding shown replyOf bufferAfter scratchAfter splitReply
+      none-shown e = record { reply = rw (outcome false e); stored = rw (outcome false e); left = rw (outcome false e) zeros }
+
+      pub split-shown : r ≡ true → {answer′ : List ℕ} → answer′ ≡ over (timings offset (splitOf (take n S))) answer → SplitAs ws period offset answer answer′ scratch S′ Split
+      unfolding shown replyOf bufferAfter scratchAfter splitReply
+      split-shown e h = record { reply = rw (outcome true e); stored = rw (outcome true e) h; left = rw (outcome true e) zeros }

@@ -1,0 +1,17 @@
+-- One check of the run for each `or`.
+use Rattle.refusals.specs.Checks.{orCheck, faultAfter}
+use borrow.Author.Needs.{needs}
+use Rattle.split.proofs.call_fault.Statement.{statement}
+use Rattle.split.proofs.call_fault.Tie as tie
+
+returns : tie.Need-returns
+unfolding orCheck faultAfter
+returns c =
+    let d = c .before .before .before in
+    rw (c .or5 .ensures, c .before .or4 .ensures, c .before .before .or3 .ensures, d .or2 .ensures, d .before .or .ensures)
+
+pub call-fault-spec : {M : Type 1} → statement M
+call-fault-spec =
+    tie.close
+    (tie.spec (λ c κs. search needs) (λ c κs. search needs) (λ c κs. search needs) (λ c κs. search needs)
+    (λ c. search needs) (λ c. search needs) (λ c. search needs) (λ c κs. search needs) returns)

@@ -1,0 +1,58 @@
+-- Whether some split works at a period and an offset, and the first one: what a call comes to.
+use Prim.Native.Nat.{ℕ, _+_, _*_, _≤_}
+use mathlib.Core.List.{List, [], _∷_, _++_}
+use mathlib.Core.Path.{_≡_}
+use lib.Dec.{ltb, eqb}
+use lib.ListN.{length}
+use Rattle.timing.specs.Limits.{maxPeriod, maxOffset, scratchPlaces}
+use Rattle.refusals.specs.Checks.{Check, firstFault}
+use Rattle.refusals.specs.declared.Fault.the-variants.{None}
+use Rattle.refusals.specs.Reply.{Reply, refusal, numbers, Outcome, refused, done, replyOf, bufferAfter, scratchAfter, answered}
+use Rattle.list_format.specs.Lists.{registers, pairCount, pairs, listChecks}
+use Rattle.split_laws.specs.Split.{Found, nothing, found, timings, firstSplit}
+use Rattle.propagate.specs.Store.{Ready}
+use Rattle.split.specs.declared.Splitting.{Splitting}
+use Rattle.split.specs.declared.Splitting.the-variants.{Split, NoSplit, Refused}
+
+-- 3: period or offset out of range. 2: an answer buffer of fewer than n places. 1: too little scratch
+abbrev pub callChecks : ℕ → ℕ → ℕ → ℕ → ℕ → ℕ → List Check
+callChecks n m period offset room spare =
+    (eqb period 0, 3, 0)
+    ∷ (ltb maxPeriod period, 3, 0)
+    ∷ (ltb maxOffset offset, 3, 0)
+    ∷ (ltb room n, 2, 0)
+    ∷ (ltb spare (scratchPlaces n m), 1, 0)
+    ∷ []
+
+-- 11 to 17, then 3, 2, 1
+abbrev pub splitChecks : List ℕ → ℕ → ℕ → ℕ → ℕ → List Check
+splitChecks ws period offset room spare = listChecks ws ++ callChecks (registers ws) (pairCount ws) period offset room spare
+
+-- a split: 1 is returned, and its timings are stored; none: 0 is returned, and nothing is stored
+unfoldable pub shown : ℕ → Found → Outcome
+shown offset nothing = done (0 ∷ []) []
+shown offset (found c) = done (1 ∷ []) (timings offset c)
+
+-- the first split at a period and an offset, with `room` places for the answer and `spare` places of scratch
+unfoldable pub splitting : List ℕ → ℕ → ℕ → ℕ → ℕ → Outcome
+splitting ws period offset room spare =
+    answered (splitChecks ws period offset room spare) (shown offset (firstSplit (registers ws) period offset (pairs ws)))
+
+-- the number and values of each case of the answer
+unfoldable pub splitReply : Splitting → Reply
+splitReply Split = numbers (1 ∷ [])
+splitReply NoSplit = numbers (0 ∷ [])
+splitReply (Refused number place) = refusal number place
+
+-- what a call promises: what is returned, and each place of both buffers, for every input
+pub record SplitAs (ws : List ℕ) (period offset : ℕ) (answer answer′ scratch scratch′ : List ℕ) (r : Splitting) : Type 0 where
+  pub reply : splitReply r ≡ replyOf (splitting ws period offset (length answer) (length scratch))
+  pub stored : answer′ ≡ bufferAfter (splitting ws period offset (length answer) (length scratch)) answer
+  pub left : scratch′ ≡ scratchAfter (splitting ws period offset (length answer) (length scratch)) (scratchPlaces (registers ws) (pairCount ws)) scratch
+
+-- a call that no refusal fits, of a list with n registers and m pairs
+pub record Allowed (ws : List ℕ) (period offset n m : ℕ) (answer scratch : List ℕ) : Type 0 where
+  pub none : firstFault (splitChecks ws period offset (length answer) (length scratch)) ≡ None
+  pub ready : Ready ws n scratch
+  pub pairsAre : m ≡ pairCount ws
+  pub room : n ≤ length answer

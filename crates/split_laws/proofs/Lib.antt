@@ -1,0 +1,4 @@
+pub mod FirstLaws
+pub mod TableLaws
+pub mod MarkLaws
+pub mod ClosureLaws

@@ -1,0 +1,138 @@
+-- Laws of the marks: steps one after the other, and what forcing, following and applying a row come to.
+use mathlib.Core.Path.{_≡_, refl, sym, _∙_, subst, subst⁻¹}
+use mathlib.Core.Bool.{Bool, true, false}
+use mathlib.Core.List.{List, [], _∷_}
+use Prim.Native.Nat.{ℕ, zero, suc, _+_, _≤_, _<_}
+use native.Mathlib.Nat.{not-suc-le-zero, le-of-suc-le-suc}
+use native.Mathlib.Decide.{ℕ-discrete}
+use native.Mathlib.Omega.{arith}
+use lib.ListN.{length, getD, set, length-set}
+use lib.Seq.{getD-set-same, getD-set-other}
+use Rattle.split_laws.specs.declared.Row.{Row}
+use Rattle.split_laws.specs.declared.Change.{Change}
+use Rattle.split_laws.specs.declared.Change.the-variants.{Settled, Changed, Clash}
+use Rattle.split_laws.specs.Table.{mark, late, rowLaunch, rowCapture, RowIs}
+use Rattle.split_laws.specs.Marks.{choice, Agrees, isZero, unset, Kept, Told, Step, joined, Forced, Followed, Avoids, Applied, Seeded}
+
+mark-range : (b : Bool) → (1 ≤ mark b) × (mark b ≤ 2)
+mark-range false = omega arith
+mark-range true = omega arith
+
+pub choice-range : (c : List Bool) (i : ℕ) → (1 ≤ choice c i) × (choice c i ≤ 2)
+choice-range c i = mark-range (getD c i false)
+
+-- ---- steps
+
+pub kept-none : (P : List Bool → Type 0) (M : List ℕ) → Kept P M M
+kept-none P M = record { size = refl; sound = λ c p a. a }
+
+pub kept-then : {P : List Bool → Type 0} {M M′ M″ : List ℕ} → Kept P M M′ → Kept P M′ M″ → Kept P M M″
+kept-then h k = record { size = k .size ∙ h .size; sound = λ c p a. k .sound c p (h .sound c p a) }
+
+-- nothing to do
+pub step-none : {P : List Bool → Type 0} {C : List ℕ → Type 0} (M : List ℕ) → C M → Step P C M M Settled
+step-none M h = record { kept = kept-none _ M; told = (refl, h) }
+
+told-then : (P : List Bool → Type 0) (C D : List ℕ → Type 0) (M M′ M″ : List ℕ) (o o′ : Change) →
+    Kept P M M′ → Told o P C M M′ → Told o′ P D M′ M″ → Told (joined o o′) P (λ (N : List ℕ). C N × D N) M M″
+told-then P C D M M′ M″ Settled Settled k h h′ = (h′ .0 ∙ h .0, (h .1, subst D (h .0) (h′ .1)))
+told-then P C D M M′ M″ Settled Changed k h h′ = subst (λ (N : List ℕ). unset M″ < unset N) (h .0) h′
+told-then P C D M M′ M″ Settled Clash k h h′ = λ c p a. h′ c p (k .sound c p a)
+told-then P C D M M′ M″ Changed Settled k h h′ = subst⁻¹ (λ (N : List ℕ). unset N < unset M) (h′ .0) h
+told-then P C D M M′ M″ Changed Changed k h h′ = omega arith
+told-then P C D M M′ M″ Changed Clash k h h′ = λ c p a. h′ c p (k .sound c p a)
+told-then P C D M M′ M″ Clash o′ k h h′ = h
+
+-- one step after the other
+pub step-then : {P : List Bool → Type 0} {C D : List ℕ → Type 0} {M M′ M″ : List ℕ} {o o′ : Change} →
+    Step P C M M′ o → Step P D M′ M″ o′ → Step P (λ (N : List ℕ). C N × D N) M M″ (joined o o′)
+step-then {P} {C} {D} {M} {M′} {M″} {o} {o′} h k = record {
+  kept = kept-then (h .kept) (k .kept);
+  told = told-then P C D M M′ M″ o o′ (h .kept) (h .told) (k .told);
+}
+
+-- a step, read for splits of which more is known, and as bringing about less
+pub step-as : {P Q : List Bool → Type 0} {C D : List ℕ → Type 0} {M M′ : List ℕ} {o : Change} →
+    ((c : List Bool) → Q c → Agrees c M → P c) → (C M → D M) → Step P C M M′ o → Step Q D M M′ o
+step-as {P} {Q} {C} {D} {M} {M′} {o} p d h = record {
+  kept = record { size = h .kept .size; sound = λ c q a. h .kept .sound c (p c q a) a };
+  told = go o (h .told);
+}
+  where
+    go : (o : Change) → Told o P C M M′ → Told o Q D M M′
+    go Settled h = (h .0, d (h .1))
+    go Changed h = h
+    go Clash h = λ c q a. h c (p c q a) a
+
+pub step-for : {P Q : List Bool → Type 0} {C : List ℕ → Type 0} {M M′ : List ℕ} {o : Change} → ((c : List Bool) → Q c → P c) → Step P C M M′ o → Step Q C M M′ o
+step-for p h = step-as (λ c q a. p c q) (λ d. d) h
+
+pub step-with : {P : List Bool → Type 0} {C D : List ℕ → Type 0} {M M′ : List ℕ} {o : Change} → (C M → D M) → Step P C M M′ o → Step P D M M′ o
+step-with d h = step-as (λ c q a. q) d h
+
+-- ---- force
+
+nonzero : (v : ℕ) → (v ≡ 0 → ⊥) → isZero v ≡ 0
+nonzero zero h = absurd (h refl)
+nonzero (suc v) h = refl
+
+-- a mark more leaves fewer without
+unset-set : (M : List ℕ) (r v : ℕ) → r < length M → getD M r 0 ≡ 0 → (v ≡ 0 → ⊥) → unset (set M r v) < unset M
+unset-set [] r v h e n = absurd (not-suc-le-zero h)
+unset-set (x ∷ M) zero v h e n = rw (nonzero v n, e) (omega arith)
+unset-set (x ∷ M) (suc r) v h e n = omega (arith, unset-set M r v (le-of-suc-le-suc h) e n)
+
+-- a mark that the split has keeps agreement
+agrees-set : (c : List Bool) (M : List ℕ) (r v : ℕ) → r < length M → choice c r ≡ v → Agrees c M → Agrees c (set M r v)
+agrees-set c M r v h p a i n = go (ℕ-discrete i r)
+  where
+    go : Dec (i ≡ r) → getD (set M r v) i 0 ≡ choice c i
+    go (yes q) = rw q (getD-set-same M r v 0 h ∙ sym p)
+    go (no q) = getD-set-other M r i v 0 q ∙ a i (λ z. n (getD-set-other M r i v 0 q ∙ z))
+
+module _ (M : List ℕ) (r v : ℕ) where
+  pub forced-same : getD M r 0 ≡ v → Forced r v M M Settled
+  forced-same e = step-none M e
+
+  pub forced-new : r < length M → getD M r 0 ≡ 0 → (v ≡ 0 → ⊥) → Forced r v M (set M r v) Changed
+  forced-new h e n = record {
+    kept = record { size = length-set M r v; sound = λ c p a. agrees-set c M r v h p a };
+    told = unset-set M r v h e n;
+  }
+
+  pub forced-clash : (getD M r 0 ≡ 0 → ⊥) → (getD M r 0 ≡ v → ⊥) → Forced r v M M Clash
+  forced-clash n d = record { kept = kept-none _ M; told = λ c p a. d (a r n ∙ p) }
+
+-- ---- follow
+
+module _ (a when b then : ℕ) where
+  pub followed-not : (M : List ℕ) → (getD M a 0 ≡ when → ⊥) → Followed a when b then M M Settled
+  followed-not M n = step-none M (λ e. absurd (n e))
+
+  pub followed : {M M′ : List ℕ} {o : Change} → (when ≡ 0 → ⊥) → getD M a 0 ≡ when → Forced b then M M′ o → Followed a when b then M M′ o
+  followed n e h = step-as (λ c q g. q (sym (g a (λ z. n (sym e ∙ z))) ∙ e)) (λ f _. f) h
+
+-- ---- a row of the table
+
+-- a choice other than v is the opposite of v
+other : (c : List Bool) (i v w : ℕ) → w + v ≡ 3 → 1 ≤ v → v ≤ 2 → (choice c i ≡ v → ⊥) → choice c i ≡ w
+other c i v w e lo hi n = omega (arith, choice-range c i)
+
+pub applied-not : (a b k f : ℕ) (M : List ℕ) → (f ≡ 1 → ⊥) → Applied a b k f M M Settled
+applied-not a b k f M n = step-none M (λ e. absurd (n e))
+
+-- both halves of row k, one after the other
+pub applied : {a b k f : ℕ} {r : Row} {M M′ M″ : List ℕ} {o o′ o″ : Change} → k < 4 → f ≡ 1 → RowIs k r → o″ ≡ joined o o′ →
+    Followed a (r .launch) b (r .«forced_capture») M M′ o → Followed b (r .capture) a (r .«forced_launch») M′ M″ o′ → Applied a b k f M M″ o″
+applied {a} {b} {k} {f} {r} l e1 is e h h′ =
+    let one = step-for {Q = Avoids a b k} (λ c q x. other c b (rowCapture k) (r .«forced_capture») (is .forced-capture) (omega arith) (omega arith) (q (x ∙ is .launch-is))) h in
+    let two = step-for {Q = Avoids a b k} (λ c q x. other c a (rowLaunch k) (r .«forced_launch») (is .forced-launch) (omega arith) (omega arith) (λ z. q z (x ∙ is .capture-is))) h′ in
+    rw e
+    (step-as (λ c q g. q e1)
+    (λ x _. (λ z. rw (x .0 (z ∙ sym (is .launch-is))) (is .forced-capture), λ z. rw (x .1 (z ∙ sym (is .capture-is))) (is .forced-launch))) (step-then one two))
+
+pub seeded-not : (b f : ℕ) (M : List ℕ) → (f ≡ 1 → ⊥) → Seeded b f M M Settled
+seeded-not b f M n = step-none M (λ e. absurd (n e))
+
+pub seeded : {b f : ℕ} {M M′ : List ℕ} {o : Change} → f ≡ 1 → Forced b late M M′ o → Seeded b f M M′ o
+seeded e h = step-as (λ c q g. q e) (λ d _. d) h
