@@ -1,11 +1,13 @@
 // Worked examples: lists that pass, and each refusal with its place.
-use crate::show;
+use crate::show::reading;
+use crate::show::writing;
+use trial_kit::show;
 
 // Reads a list into sixteen places that hold 9, and shows the answer and the first ten places.
 fn read(label: &[u8], words: &[u32]) {
     let mut answer = [9u32; 16];
     show::text(label);
-    show::reading(read_list::read(words, &mut answer));
+    reading(read_list::read(words, &mut answer));
     show::numbers(&answer, 10);
 }
 
@@ -13,7 +15,7 @@ fn read(label: &[u8], words: &[u32]) {
 fn write(label: &[u8], n: u32, numbers: &[u32]) {
     let mut answer = [9u32; 12];
     show::text(label);
-    show::writing(write_list::write(n, numbers, &mut answer));
+    writing(write_list::write(n, numbers, &mut answer));
     show::numbers(&answer, 9);
 }
 

@@ -1,6 +1,5 @@
 // Runs reading and writing on worked examples and on random lists. What it prints is held to the file `stdout`.
 mod examples;
-mod random;
 mod show;
 mod trips;
 

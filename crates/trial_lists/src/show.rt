@@ -1,67 +1,24 @@
-// Lines of text on standard output.
-use libc::STDOUT_FILENO;
+// The answers of reading and writing, as text.
 use list_format::Reading;
 use list_format::Writing;
-
-pub fn text(bytes: &[u8]) {
-    io::write_all(STDOUT_FILENO, bytes);
-}
-
-pub fn number(n: u64) {
-    io::print_decimal(STDOUT_FILENO, n);
-}
-
-// A count with what was counted after it.
-pub fn count(n: u32, what: &[u8]) {
-    number(n as u64);
-    text(what);
-}
-
-fn refusal(number_: u32, place: usize) {
-    text(b"refused ");
-    number(number_ as u64);
-    text(b" at ");
-    number(place as u64);
-    text(b"\n");
-}
+use trial_kit::show;
 
 pub fn reading(r: Reading) {
     match r {
-        Reading::Refused(n, place) => refusal(n, place),
+        Reading::Refused(n, place) => show::refusal(n, place),
         Reading::Read(n, m) => {
-            count(n, b" registers, ");
-            count(m, b" pairs\n");
+            show::count(n, b" registers, ");
+            show::count(m, b" pairs\n");
         }
     }
 }
 
 pub fn writing(r: Writing) {
     match r {
-        Writing::Refused(n, place) => refusal(n, place),
+        Writing::Refused(n, place) => show::refusal(n, place),
         Writing::Written(words) => {
-            number(words as u64);
-            text(b" words\n");
+            show::number(words as u64);
+            show::text(b" words\n");
         }
     }
-}
-
-fn spaced(x: u32) {
-    text(b" ");
-    number(x as u64);
-}
-
-fn each(xs: &[u32], n: usize) {
-    let mut i = 0;
-    while i < n {
-        if i < xs.len() {
-            spaced(xs[i]);
-        }
-        i += 1;
-    }
-}
-
-// The first `n` of some numbers, on a line.
-pub fn numbers(xs: &[u32], n: usize) {
-    each(xs, n);
-    text(b"\n");
 }

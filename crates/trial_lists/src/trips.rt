@@ -1,57 +1,13 @@
 // Write then read, and read then write, on random lists; then lists with damaged words.
-use crate::random;
-use crate::show;
 use list_format::Reading;
 use list_format::Writing;
-
-// Stands in every place of a buffer before a call.
-const DIRT: u32 = 0xDEAD_BEEF;
-
-fn dirty(buffer: &mut [u32]) {
-    let mut i = 0;
-    while i < buffer.len() {
-        buffer[i] = DIRT;
-        i += 1;
-    }
-}
-
-// Whether two buffers hold the same in their first `count` places.
-fn same(a: &[u32], b: &[u32], count: usize) -> bool {
-    let mut i = 0;
-    while i < count {
-        if a.len() <= i {
-            return false;
-        }
-        if b.len() <= i {
-            return false;
-        }
-        if a[i] != b[i] {
-            return false;
-        }
-        i += 1;
-    }
-    true
-}
-
-// Whether the places from `from` on are as they were made dirty.
-fn kept(buffer: &[u32], from: usize) -> bool {
-    let mut i = from;
-    while i < buffer.len() {
-        if buffer[i] != DIRT {
-            return false;
-        }
-        i += 1;
-    }
-    true
-}
-
-// The first `count` places, or all if there are fewer.
-fn front(s: &[u32], count: usize) -> &[u32] {
-    if count <= s.len() {
-        return &s[..count];
-    }
-    s
-}
+use trial_kit::places::dirty;
+use trial_kit::places::front;
+use trial_kit::places::kept;
+use trial_kit::places::same;
+use trial_kit::random;
+use trial_kit::show;
+use trial_kit::tally::Tally;
 
 // Writes the list of n registers and these numbers and reads it back: the same, and later places kept.
 // The answer is the count of words, or 0 if anything is wrong.
@@ -133,34 +89,6 @@ fn damage(kind: u32, seed: u64, words: &mut [u32], count: usize) {
     change(words, count, random::next(seed), down(kind, by));
 }
 
-// How the lists fared: refused, the same when written again, or wrong.
-pub struct Tally {
-    pub refused: u32,
-    pub same: u32,
-    pub wrong: u32,
-}
-
-fn more(x: u32) -> u32 {
-    if x < 1_000_000 { x + 1 } else { x }
-}
-
-impl Tally {
-    // One list more.
-    fn with(self, fate: u32) -> Tally {
-        let mut next = self;
-        if fate == 0 {
-            next.refused = more(self.refused);
-            return next;
-        }
-        if fate == 1 {
-            next.same = more(self.same);
-            return next;
-        }
-        next.wrong = more(self.wrong);
-        next
-    }
-}
-
 // The next seed, and how one list fared.
 pub struct Turn {
     pub seed: u64,
@@ -174,7 +102,7 @@ fn one(kind: u32, seed: u64) -> Turn {
     let mut back = [0u32; 24];
     let last = random::up_to(seed, 7);
     let m = random::up_to(random::next(seed), 6) as usize;
-    let next = random::pairs(seed, last, m, &mut numbers);
+    let next = random::pairs(seed, last, timing::MAX_DELAY, m, &mut numbers);
     let count = there_and_back(last + 1, front(&numbers, 4 * m), &mut words, &mut back);
     Turn {
         seed: random::next(next),
@@ -196,9 +124,9 @@ fn fate(kind: u32, seed: u64, count: usize, words: &mut [u32]) -> u32 {
 // Two thousand lists.
 fn lists(kind: u32) -> Tally {
     let mut tally = Tally {
-        refused: 0,
-        same: 0,
-        wrong: 0,
+        zeros: 0,
+        ones: 0,
+        others: 0,
     };
     let mut seed: u64 = 1;
     let mut i: u32 = 0;
@@ -215,9 +143,9 @@ fn lists(kind: u32) -> Tally {
 pub fn small(label: &[u8], kind: u32) {
     let t = lists(kind);
     show::text(label);
-    show::count(t.refused, b" refused, ");
-    show::count(t.same, b" the same when written again, ");
-    show::count(t.wrong, b" wrong\n");
+    show::count(t.zeros, b" refused, ");
+    show::count(t.ones, b" the same when written again, ");
+    show::count(t.others, b" wrong\n");
 }
 
 // A list of the largest size there and back, and then with one place too few.
@@ -225,7 +153,7 @@ pub fn largest() {
     let mut numbers = [0u32; 8192];
     let mut words = [0u32; 6146];
     let mut back = [0u32; 8192];
-    random::pairs(7, 511, 2048, &mut numbers);
+    random::pairs(7, 511, timing::MAX_DELAY, 2048, &mut numbers);
     show::text(b"512 registers, 2048 pairs, words there and back: ");
     show::number(there_and_back(512, &numbers, &mut words, &mut back) as u64);
     too_short(&numbers);
@@ -234,5 +162,5 @@ pub fn largest() {
 fn too_short(numbers: &[u32]) {
     let mut words = [0u32; 6145];
     show::text(b"; in one place less: ");
-    show::writing(write_list::write(512, numbers, &mut words));
+    crate::show::writing(write_list::write(512, numbers, &mut words));
 }

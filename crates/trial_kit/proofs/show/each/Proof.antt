@@ -1,7 +1,7 @@
 use Prim.Native.Nat.{_≤_, _-_}
 use borrow.Author.Needs.{needs}
-use Rattle.trial_lists.proofs.show.each.Statement.{statement}
-use Rattle.trial_lists.proofs.show.each.Tie as tie
+use Rattle.trial_kit.proofs.show.each.Statement.{statement}
+use Rattle.trial_kit.proofs.show.each.Tie as tie
 
 abbrev Inv-loop : tie.InvT-loop
 Inv-loop xs n i₀ i = i ≤ n

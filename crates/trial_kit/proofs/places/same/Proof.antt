@@ -1,7 +1,7 @@
 use Prim.Native.Nat.{_≤_, _-_}
 use borrow.Author.Needs.{needs}
-use Rattle.trial_lists.proofs.trips.same.Statement.{statement}
-use Rattle.trial_lists.proofs.trips.same.Tie as tie
+use Rattle.trial_kit.proofs.places.same.Statement.{statement}
+use Rattle.trial_kit.proofs.places.same.Tie as tie
 
 abbrev Inv-loop : tie.InvT-loop
 Inv-loop a b count i₀ i = i ≤ count

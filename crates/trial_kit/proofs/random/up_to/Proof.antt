@@ -2,8 +2,8 @@ use native.Mathlib.Omega.{arith}
 use Prim.Native.Nat.{_+_}
 use native.Mathlib.Nat.{mod-lt}
 use borrow.Author.Needs.{needs}
-use Rattle.trial_lists.proofs.random.up_to.Statement.{statement}
-use Rattle.trial_lists.proofs.random.up_to.Tie as tie
+use Rattle.trial_kit.proofs.random.up_to.Statement.{statement}
+use Rattle.trial_kit.proofs.random.up_to.Tie as tie
 
 cast-result : tie.Need-cast-result
 cast-result c =

@@ -1,8 +1,8 @@
 use Prim.Native.Nat.{_-_}
 use lib.ListN.{length}
 use borrow.Author.Needs.{needs}
-use Rattle.trial_lists.proofs.trips.kept.Statement.{statement}
-use Rattle.trial_lists.proofs.trips.kept.Tie as tie
+use Rattle.trial_kit.proofs.places.kept.Statement.{statement}
+use Rattle.trial_kit.proofs.places.kept.Tie as tie
 
 abbrev Inv-loop : tie.InvT-loop
 Inv-loop buffer from i₀ i = Unit {0}

@@ -29,13 +29,13 @@ fn put(numbers: &mut [u32], at: usize, a: u32, b: u32, c: u32, d: u32) {
     numbers[at + 3] = d;
 }
 
-// A pair of registers up to `last`, stored from `at` on. The answer is the next seed.
-fn pair(seed: u64, last: u32, at: usize, numbers: &mut [u32]) -> u64 {
+// A pair of registers up to `last` and delays up to `most`, stored from `at` on. The answer is the next seed.
+fn pair(seed: u64, last: u32, most: u32, at: usize, numbers: &mut [u32]) -> u64 {
     let a = next(seed);
     let b = next(a);
     let c = next(b);
     let d = next(c);
-    let greatest = up_to(c, timing::MAX_DELAY);
+    let greatest = up_to(c, most);
     put(
         numbers,
         at,
@@ -48,13 +48,13 @@ fn pair(seed: u64, last: u32, at: usize, numbers: &mut [u32]) -> u64 {
 }
 
 // The numbers of `m` pairs. The answer is the next seed.
-pub fn pairs(seed: u64, last: u32, m: usize, numbers: &mut [u32]) -> u64
+pub fn pairs(seed: u64, last: u32, most: u32, m: usize, numbers: &mut [u32]) -> u64
     requires { ⌜ m ≤ 2048 ⌝ }
 {
     let mut s = seed;
     let mut k = 0;
     while k < m {
-        s = pair(s, last, 4 * k, numbers);
+        s = pair(s, last, most, 4 * k, numbers);
         k += 1;
     }
     s

@@ -1,8 +1,8 @@
 use mathlib.Core.Path.{sym}
 use lib.Seq.{length-take-le}
 use borrow.Author.Needs.{needs}
-use Rattle.trial_lists.proofs.trips.front.Statement.{statement}
-use Rattle.trial_lists.proofs.trips.front.Tie as tie
+use Rattle.trial_kit.proofs.places.front.Statement.{statement}
+use Rattle.trial_kit.proofs.places.front.Tie as tie
 
 slice-aggregate-result : tie.Need-slice-aggregate-result
 slice-aggregate-result c = sym (length-take-le _ _ (c .before .if1 .taken))

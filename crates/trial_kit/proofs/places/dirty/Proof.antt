@@ -3,8 +3,8 @@ use Prim.Native.Nat.{_≤_, _-_}
 use mathlib.Core.Path.{_≡_}
 use lib.ListN.{length, length-set}
 use borrow.Author.Needs.{needs}
-use Rattle.trial_lists.proofs.trips.dirty.Statement.{statement}
-use Rattle.trial_lists.proofs.trips.dirty.Tie as tie
+use Rattle.trial_kit.proofs.places.dirty.Statement.{statement}
+use Rattle.trial_kit.proofs.places.dirty.Tie as tie
 
 abbrev Inv-loop : tie.InvT-loop
 Inv-loop buffer₀ i₀ buffer i = (i ≤ length buffer) × (length buffer ≡ length buffer₀)

@@ -1,0 +1,28 @@
+// A tally of what came of many runs.
+// How many runs had fate 0, fate 1, and any other.
+pub struct Tally {
+    pub zeros: u32,
+    pub ones: u32,
+    pub others: u32,
+}
+
+fn more(x: u32) -> u32 {
+    if x < 1_000_000 { x + 1 } else { x }
+}
+
+impl Tally {
+    // One run more.
+    pub fn with(self, fate: u32) -> Tally {
+        let mut next = self;
+        if fate == 0 {
+            next.zeros = more(self.zeros);
+            return next;
+        }
+        if fate == 1 {
+            next.ones = more(self.ones);
+            return next;
+        }
+        next.others = more(self.others);
+        next
+    }
+}
