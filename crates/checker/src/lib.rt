@@ -1,4 +1,4 @@
-// Checks a given schedule against a delay list.
+// Checks a given schedule against a delay list: whether each pair meets both rules, and if not, which breaks one first.
 // The contracts cite `specs/Check.antt`.
 ghost use mathlib.Core.Path.{_≡_};
 ghost use lib.ListN.{length};
@@ -110,8 +110,8 @@ fn call_fault(n: usize, period: u32, timings: &[u32]) -> Fault
         .or(late(timings), 3, 0)
 }
 
-// Refusals 11 to 17 of the list, then 3: a period outside 1 to 1,000,000, not a timing for each register, or a timing
-// above 511,000,000, each at place 0.
+// Checks a schedule at a period. Refusals 11 to 17 of the list, then 3: the period or a timing out of range, or not a
+// timing for each register.
 pub fn check(words: &[u32], period: u32, timings: &[u32]) -> Checking
     ensures { λ r. ⌜ CheckedAs (now (words .entry)) period (now (timings .entry)) r ⌝ }
 {

@@ -4,6 +4,7 @@ use mathlib.Core.List.{List}
 use mathlib.Core.Path.{_≡_, refl}
 use native.Mathlib.Omega.{arith}
 use Rattle.timing.specs.declared.Pair.{Pair}
+use Rattle.timing.specs.Limits.{maxRegisters}
 use Rattle.list_format.specs.Lists.{registers, PairIn, IsPair}
 use Rattle.list_format.proofs.ListLaws.{accepted-in}
 use Rattle.free_laws.proofs.Cycle.{adds-none, adds-setup, adds-hold}
@@ -26,7 +27,7 @@ walk-start h (s, a, k, g, l, u) =
 
 module _ {ws : List ℕ} {count n : ℕ} {w : Walk} (r : Walkable ws count n) (s : Walked ws n w) (more : w .steps < n) where
   -- a register has a place among the parents
-  pub at-parent : w .at < 512
+  pub at-parent : w .at < maxRegisters
   at-parent = omega (arith, accepted-in ws (r .accepted) .head .most, s .inside)
 
   pub at-pair : {k : ℕ} → k < count → PairIn ws k

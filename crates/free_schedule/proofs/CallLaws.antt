@@ -1,11 +1,9 @@
 -- The places that are lent and come back filled, and the answer case by case.
 use Prim.Native.Nat.{ℕ, _≤_, _<_}
-use mathlib.Core.Bool.{true, false}
 use mathlib.Core.List.{List, [], _∷_, _++_}
-use mathlib.Core.Path.{_≡_, ap, sym, _∙_}
+use mathlib.Core.Path.{_≡_, sym, _∙_}
 use native.Mathlib.Omega.{arith}
 use borrow.Author.Tests.{lt-ltb, le-ltb}
-use lib.Dec.{ltb}
 use lib.ListN.{length, take, drop}
 use lib.Seq.{length-take-le, take-at}
 use Rattle.refusals.specs.Reply.{refused, done, replyOf, bufferAfter}
@@ -18,11 +16,10 @@ use Rattle.free_laws.specs.Unbeaten.{UnbeatenFree}
 use Rattle.free_laws.proofs.UnbeatenLaws.{free-unbeaten}
 use Rattle.checker.specs.Check.{Ready}
 use Rattle.climb.specs.Trial.{Climbed}
-use Rattle.free_schedule.specs.FreeCall.{roomChecks, freeing, freeReply, FreeAs, Counted, Roomy, FreeIn}
+use Rattle.free_schedule.specs.FreeCall.{freeing, freeReply, FreeAs, Counted, Roomy, FreeIn}
 use Rattle.free_schedule.specs.declared.FreeAnswer.the-variants.{Periods, Refused}
 
--- ---- the answer buffer
-
+-- a place for each register: they are lent to the climb and come back filled
 module _ {ws : List ℕ} {n count : ℕ} {was : List ℕ} (r : Roomy ws n count was) where
   pub lent-size : n ≡ length (take n was)
   lent-size = sym (length-take-le n was (r .room))
@@ -42,21 +39,23 @@ module _ {ws : List ℕ} {n count : ℕ} {was : List ℕ} (r : Roomy ws n count 
         places = rw (c .schedule, unbeaten-here .size, r .counted .registersAre);
       }
 
+  done-is : freeing ws (length was) ≡ done (common (pairs ws) ∷ freePeriod (registers ws) (pairs ws) ∷ []) (freeSchedule (registers ws) (pairs ws))
+  unfolding freeing
+  done-is =
+      let room : registers ws ≤ length was = omega (arith, r .room, r .counted .registersAre) in
+      then-done (listChecks ws) _ _ (accepted→none ws (r .counted .accepted) .none) (one-passes 2 0 (le-ltb _ _ room))
+
   -- the answer, with a place for each register
   pub settled : {common′ free : ℕ} {now : List ℕ} → common′ ≡ common (pairs ws) → FreeIn ws was now free → FreeAs ws was now (Periods common′ free)
-  unfolding freeing replyOf bufferAfter freeReply
+  unfolding replyOf bufferAfter freeReply
   settled {common′} {free} {now} c f =
-      let a = accepted→none ws (r .counted .accepted) in
-      let room : registers ws ≤ length was = omega (arith, r .room, r .counted .registersAre) in
-      let e : freeing ws (length was) ≡ done (common (pairs ws) ∷ freePeriod (registers ws) (pairs ws) ∷ []) (freeSchedule (registers ws) (pairs ws))
-      = then-done (listChecks ws) (roomChecks (registers ws) (length was)) _ (a .none) (one-passes 2 0 (le-ltb _ _ room)) in
       record {
-        reply = rw (e, c, f .period);
-        buffer = rw e (f .places);
+        reply = rw (done-is, c, f .period);
+        buffer = rw done-is (f .places);
         unbeaten = λ c₁ f₁ q.
-            let same : f₁ ≡ freePeriod (registers ws) (pairs ws) = (let z : f₁ ≡ free = cc in z ∙ f .period) in
-            rw (same, f .places, take-at (freeSchedule (registers ws) (pairs ws)) (drop (length (freeSchedule (registers ws) (pairs ws))) was) (registers ws) (unbeaten-here .size))
-            unbeaten-here;
+            let z : f₁ ≡ free = cc in
+            let first = take-at (freeSchedule (registers ws) (pairs ws)) (drop (length (freeSchedule (registers ws) (pairs ws))) was) (registers ws) (unbeaten-here .size) in
+            rw (z, f .period, f .places, first) unbeaten-here;
       }
 
 module _ (ws was : List ℕ) where

@@ -1,7 +1,5 @@
 // The common period, the free period and the free schedule of a delay list.
 // The contracts cite `specs/FreeCall.antt`, and the definitions of `free_laws`.
-ghost use mathlib.Core.Path.{_≡_};
-ghost use lib.ListN.{length};
 ghost use Rattle.free_schedule.specs.FreeCall.{FreeAs, Counted, Roomy, FreeIn};
 use list_format::Verdict;
 
@@ -32,8 +30,8 @@ fn settle(words: &[u32], n: usize, count: usize, answer: &mut [u32]) -> FreeAnsw
     FreeAnswer::Periods(common, free)
 }
 
-// Refusals 11 to 17 of the list, then 2: an answer buffer of fewer than n places. Else the common and the free period;
-// the free schedule fills the first n places, and the later ones keep their contents.
+// Refusals 11 to 17 of the list, then 2: an answer buffer of fewer than n places. Else the common and the free period
+// are returned, and the free schedule fills the first n places; later places keep their contents.
 pub fn free(words: &[u32], answer: &mut [u32]) -> FreeAnswer
     ensures { λ r. ⌜ FreeAs (now (words .entry)) (now (answer .entry)) (now (answer .exit)) r ⌝ }
 {

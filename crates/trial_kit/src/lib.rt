@@ -1,5 +1,6 @@
 // What the test programs share: numbers that look random, buffers, lines of text, and a tally.
 pub mod places;
 pub mod random;
+pub mod rules;
 pub mod show;
 pub mod tally;

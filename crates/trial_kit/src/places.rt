@@ -47,3 +47,18 @@ pub fn front(s: &[u32], count: usize) -> &[u32] {
     }
     s
 }
+
+// Whether the first `count` places are zero.
+pub fn zero(buffer: &[u32], count: usize) -> bool {
+    let mut i = 0;
+    while i < count {
+        if buffer.len() <= i {
+            return false;
+        }
+        if buffer[i] != 0 {
+            return false;
+        }
+        i += 1;
+    }
+    true
+}

@@ -16,7 +16,7 @@ pub fn up_to(seed: u64, most: u32) -> u32
 }
 
 // Four numbers from `at` on, if there is room.
-fn put(numbers: &mut [u32], at: usize, a: u32, b: u32, c: u32, d: u32) {
+pub fn put(numbers: &mut [u32], at: usize, a: u32, b: u32, c: u32, d: u32) {
     if numbers.len() < 4 {
         return;
     }

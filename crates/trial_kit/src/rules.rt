@@ -1,0 +1,69 @@
+// The rules of a list straight from its numbers, and schedules counted through one by one.
+ghost use Prim.Native.Nat.{_≤_};
+
+// The number at a place, or 0.
+pub fn at(xs: &[u32], i: usize) -> u32 {
+    if i < xs.len() {
+        return xs[i];
+    }
+    0
+}
+
+// Number j of pair k.
+fn number(numbers: &[u32], k: usize, j: usize) -> u32 {
+    at(numbers, 4 * (k % 4096) + j % 4)
+}
+
+fn setup(numbers: &[u32], k: usize, period: u32, s: &[u32]) -> bool {
+    let a = at(s, number(numbers, k, 0) as usize);
+    let b = at(s, number(numbers, k, 1) as usize);
+    (a as u64) + (number(numbers, k, 3) as u64) <= (b as u64) + (period as u64)
+}
+
+fn hold(numbers: &[u32], k: usize, s: &[u32]) -> bool {
+    let a = at(s, number(numbers, k, 0) as usize);
+    let b = at(s, number(numbers, k, 1) as usize);
+    (b as u64) <= (a as u64) + (number(numbers, k, 2) as u64)
+}
+
+// The first pair that breaks a rule, twice over, and one more if only hold is broken; twice m if there is none.
+pub fn broken(numbers: &[u32], m: usize, period: u32, s: &[u32]) -> usize
+    requires { ⌜ m ≤ 2048 ⌝ }
+{
+    let mut k = 0;
+    while k < m {
+        if !setup(numbers, k, period, s) {
+            return 2 * k;
+        }
+        if !hold(numbers, k, s) {
+            return 2 * k + 1;
+        }
+        k += 1;
+    }
+    2 * m
+}
+
+// One more at place i; 0 and false if it stands at the most already.
+fn bump(s: &mut [u32], i: usize, most: u32) -> bool {
+    if s.len() <= i {
+        return false;
+    }
+    if s[i] < most {
+        s[i] = s[i] + 1;
+        return true;
+    }
+    s[i] = 0;
+    false
+}
+
+// The next schedule of n registers with timings up to most; false after the last.
+pub fn advance(s: &mut [u32], n: usize, most: u32) -> bool {
+    let mut i = 0;
+    while i < n {
+        if bump(s, i, most) {
+            return true;
+        }
+        i += 1;
+    }
+    false
+}
