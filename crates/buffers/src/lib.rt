@@ -1,2 +1,18 @@
 // Stretches of numbers strung together, and buffers that are filled from the front.
-// Mathematics only: definitions stand in `specs/`, laws in `proofs/`.
+// The definitions stand in `specs/`, laws in `proofs/`.
+ghost use mathlib.Core.Path.{_≡_};
+ghost use Prim.Native.Nat.{_≤_};
+ghost use mathlib.Core.List.{_++_};
+ghost use lib.ListN.{length, drop, replicate};
+
+// The first k places are set to 0.
+pub fn clear(places: &mut [u32], k: usize)
+    requires { ⌜ k ≤ length (now places) ⌝ }
+    ensures { λ _. ⌜ now (places .exit) ≡ replicate k 0 ++ drop k (now (places .entry)) ⌝ }
+{
+    let mut i = 0;
+    while i < k {
+        places[i] = 0;
+        i += 1;
+    }
+}

@@ -27,13 +27,12 @@ use Rattle.refusals.specs.declared.Fault.the-variants.{None, At}
 use Rattle.list_format.specs.Lists.{registers, pairCount, pairAt, pairs, listChecks, verdict, IsPair}
 use Rattle.list_format.specs.declared.Verdict.the-variants as Verdict
 use Rattle.list_format.specs.declared.Verdict.the-variants.{Accepted}
-use Rattle.list_format.proofs.ListLaws.{refused→fault, accepted→none, none→accepted, same, each-pair}
+use Rattle.list_format.proofs.ListLaws.{refused→fault, accepted→none, none→accepted, same, each-pair, pair-holds}
 use Rattle.checker.specs.Check.{setupAt, holdAt, metAt, firstBroken, brokenRule, found, someLate, callChecks, checkChecks, checking, ruleNumber, checkReply, CheckedAs, Ready}
 use Rattle.checker.specs.declared.Rule.{Rule}
 use Rattle.checker.specs.declared.Rule.the-variants.{Setup, Hold}
 use Rattle.checker.specs.declared.Checking.{Checking}
 use Rattle.checker.specs.declared.Checking.the-variants.{Admissible, Broken, Refused}
-use Rattle.checker.proofs.PlaceLaws.{pair-holds}
 
 -- ---- one pair
 

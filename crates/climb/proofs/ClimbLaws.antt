@@ -6,8 +6,8 @@ use mathlib.Core.Path.{_≡_, ap, sym, _∙_}
 use native.Mathlib.Nat.{le-refl, le-trans, sub-zero}
 use native.Mathlib.Numerals.{add-one}
 use native.Mathlib.Omega.{arith}
-use borrow.Author.Fill.{fill-more}
-use lib.ListN.{length, drop, set, replicate, length-append, length-replicate, length-drop, drop-of-length-le}
+use lib.ListN.{length, drop, replicate}
+use lib.Seq.{drop-length}
 use Rattle.timing.specs.declared.Pair.{Pair}
 use Rattle.timing.specs.Rules.{admissible, Each, InRange}
 use Rattle.timing.specs.Limits.{maxDelay, maxPeriod, maxTiming}
@@ -78,24 +78,8 @@ module _ {ws : List ℕ} {most k : ℕ} (l : Largest ws most k) where
 
 -- ---- registers at 0
 
--- the first i registers
-pub record Cleared (x₀ x : List ℕ) (i : ℕ) : Type 0 where
-  pub bound : i ≤ length x₀
-  pub is : x ≡ replicate i 0 ++ drop i x₀
-
-module _ {x₀ x : List ℕ} {i : ℕ} (c : Cleared x₀ x i) where
-  pub cleared-size : length x ≡ length x₀
-  cleared-size = rw (c .is, length-append, length-replicate, length-drop) (omega (arith, c .bound))
-
-  pub cleared-turn : i < length x → Cleared x₀ (set x i 0) (i + 1)
-  cleared-turn h =
-      let l : i < length x₀ = omega (arith, cleared-size) in
-      record { bound = omega arith; is = ap (λ y. set y i 0) (c .is) ∙ fill-more i 0 x₀ l }
-
-  pub cleared-end : length x ≤ i → x ≡ zeros (length x₀)
-  cleared-end h =
-      let all : i ≡ length x₀ = omega (arith, c .bound, cleared-size) in
-      c .is ∙ rw (drop-of-length-le x₀ {i = i} (omega arith), append-nil, all)
+pub all-cleared : (x₀ : List ℕ) {x : List ℕ} → x ≡ replicate (length x₀) 0 ++ drop (length x₀) x₀ → x ≡ zeros (length x₀)
+all-cleared x₀ e = e ∙ rw (drop-length x₀, append-nil)
 
 -- ---- a trial
 

@@ -11,21 +11,11 @@ ghost use Rattle.checker.specs.Check.{Ready};
 ghost use Rattle.climb.specs.Trial.{Alone, Trial, Judged, Tried, Climbed};
 use rounds::PARENTS;
 use timing::Pair;
+use timing::larger;
+use timing::less;
 
 // The parent of a register that no rule has raised.
 const NONE: u32 = 0xFFFF_FFFF;
-
-fn larger(a: u32, b: u32) -> u32
-    ensures { λ r. ⌜ r ≡ max a b ⌝ }
-{
-    if a < b { b } else { a }
-}
-
-fn less(a: u32, b: u32) -> u32
-    ensures { λ r. ⌜ r ≡ a - b ⌝ }
-{
-    if b < a { a - b } else { 0 }
-}
 
 // What a pair alone asks of the period. One that joins a register to itself has no times to shift.
 fn alone(p: Pair) -> u32
@@ -74,11 +64,8 @@ pub fn common(words: &[u32], count: usize) -> u32
 fn clear(x: &mut [u32])
     ensures { λ _. ⌜ now (x .exit) ≡ zeros (length (now (x .entry))) ⌝ }
 {
-    let mut i = 0;
-    while i < x.len() {
-        x[i] = 0;
-        i += 1;
-    }
+    let n = x.len();
+    buffers::clear(x, n);
 }
 
 // What a round that raised the register `last` last tells: the period if the schedule is admissible, a longer one if

@@ -4,7 +4,7 @@ ghost use mathlib.Core.Path.{_≡_};
 ghost use Prim.Native.Nat.{_+_, _*_, _^_, _<_, _≤_};
 ghost use lib.ListN.{length};
 ghost use Rattle.refusals.specs.Checks.{firstFault, faultAfter};
-ghost use Rattle.list_format.specs.Lists.{word, pairPlace, pairOf, headChecks, kindChecks, valueChecks, pairChecks, endChecks, bodyChecks, PairIn, IsPair};
+ghost use Rattle.list_format.specs.Lists.{word, pairPlace, placeOf, pairOf, headChecks, kindChecks, valueChecks, pairChecks, endChecks, bodyChecks, PairIn, IsPair};
 ghost use Rattle.list_format.specs.Lists.{verdict as verdictOf};
 use list_format::Verdict;
 use refusals::Fault;
@@ -152,4 +152,12 @@ pub fn pair_at(words: &[u32], k: usize) -> Pair
 {
     let at = pair_place(k);
     pair_of(words[at], words[at + 1], words[at + 2])
+}
+
+// The i-th pair of a walk over m pairs: up the list, or from its end if down.
+pub fn place(m: usize, i: usize, down: bool) -> usize
+    requires { ⌜ i < m ⌝ }
+    ensures { λ r. ⌜ (r ≡ placeOf m down i) × (r < m) ⌝ }
+{
+    if down { m - 1 - i } else { i }
 }

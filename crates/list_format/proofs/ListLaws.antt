@@ -230,6 +230,22 @@ module _ (ws : List ℕ) where
   pub each-pair : (P : Pair → Type 0) → ((k : ℕ) → k < pairCount ws → P (pairAt ws k)) → Each P (pairs ws)
   each-pair P h = each-from P 0 (pairCount ws) (λ k l. h k (omega arith))
 
+  -- and back: it holds of pair k
+  each-at : (P : Pair → Type 0) (from left j : ℕ) → j < left → Each P (pairsFrom ws from left) → P (pairAt ws (from + j))
+  unfolding pairsFrom
+  each-at P from zero j h e = absurd (omega arith)
+  each-at P from (suc left) zero h e =
+      let z : from + 0 ≡ from = omega arith in
+      rw z (e .0)
+  each-at P from (suc left) (suc j) h e =
+      let z : from + suc j ≡ from + 1 + j = omega arith in
+      rw z (each-at P (from + 1) left j (omega arith) (e .1))
+
+  pub pair-holds : (P : Pair → Type 0) → Each P (pairs ws) → (k : ℕ) → k < pairCount ws → P (pairAt ws k)
+  pair-holds P e k h =
+      let z : 0 + k ≡ k = omega arith in
+      rw z at (each-at P 0 (pairCount ws) k h e)
+
   pub pairs-in-range : IsAccepted ws → Each (InRange (registers ws)) (pairs ws)
   pairs-in-range a =
       each-pair (InRange (registers ws)) (λ k h.

@@ -1,7 +1,7 @@
 -- A delay list is a run of 32-bit words: head, then three words for each pair, then the end word.
 -- This file says where a pair stands, which run of words is refused and why, and what an accepted one says.
-use Prim.Native.Nat.{ℕ, zero, suc, _+_, _*_, _<_, _≤_}
-use mathlib.Core.Bool.{Bool, not}
+use Prim.Native.Nat.{ℕ, zero, suc, _+_, _-_, _*_, _<_, _≤_}
+use mathlib.Core.Bool.{Bool, not, cond}
 use mathlib.Core.List.{List, [], _∷_, _++_}
 use mathlib.Core.Path.{_≡_}
 use lib.Dec.{ltb, leb, eqb}
@@ -49,6 +49,10 @@ pairsFrom ws k (suc left) = pairAt ws k ∷ pairsFrom ws (k + 1) left
 -- all pairs of the list
 abbrev pub pairs : List ℕ → List Pair
 pairs ws = pairsFrom ws 0 (pairCount ws)
+
+-- the i-th pair of a walk over m pairs: up the list, or from its end if down
+abbrev pub placeOf : ℕ → Bool → ℕ → ℕ
+placeOf m down i = cond down (m - 1 - i) i
 
 -- ---- the checks, in order
 

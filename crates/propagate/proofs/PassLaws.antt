@@ -9,7 +9,8 @@ use lib.Seq.{drop-at, take-at, length-take-le}
 use borrow.Author.Count.{below-more}
 use Rattle.timing.specs.declared.Pair.{Pair}
 use Rattle.timing.specs.Rules.{Each}
-use Rattle.list_format.specs.Lists.{pairCount, pairAt, pairsFrom, pairs}
+use Rattle.list_format.specs.Lists.{pairCount, pairAt, pairsFrom, pairs, placeOf}
+use Rattle.list_format.proofs.ListLaws.{pair-holds}
 use Rattle.split_laws.specs.declared.Change.{Change}
 use Rattle.split_laws.specs.declared.Change.the-variants.{Settled, Changed, Clash}
 use Rattle.split_laws.specs.Split.{works}
@@ -17,22 +18,11 @@ use Rattle.split_laws.specs.Marks.{unset, Told, Step, joined, Flagged, keeps, S
 use Rattle.split_laws.proofs.MarkLaws.{kept-none, kept-then, step-none, step-then, step-with, step-as}
 use Rattle.split_laws.proofs.ClosureLaws.{works-each}
 use Rattle.propagate.specs.Store.{fourAt, Recorded}
-use Rattle.propagate.specs.Passes.{Working, Pass, PairClosed, AllClosed, placeOf, Carried, Propagated}
+use Rattle.propagate.specs.Passes.{Working, Pass, PairClosed, AllClosed, Carried, Propagated}
 use Rattle.propagate.proofs.StoreLaws.{drop-further, four-drop}
 
--- what holds of each pair of the list holds of pair k
-pair-each : (ws : List ℕ) (P : Pair → Type 0) (from left k : ℕ) → Each P (pairsFrom ws from left) → k < left → P (pairAt ws (from + k))
-unfolding pairsFrom
-pair-each ws P from zero k h l = absurd (omega arith)
-pair-each ws P from (suc left) zero h l = let e : from + 0 ≡ from = omega arith in rw e (h .0)
-pair-each ws P from (suc left) (suc k) h l =
-    let e : from + suc k ≡ from + 1 + k = omega arith in
-    rw e (pair-each ws P (from + 1) left k (h .1) (omega arith))
-
 works-at : (t s : ℕ) (ws : List ℕ) (c : List Bool) (k : ℕ) → works t s (pairs ws) c ≡ true → k < pairCount ws → keeps t s (pairAt ws k) c ≡ true
-works-at t s ws c k w l =
-    let e : 0 + k ≡ k = omega arith in
-    rw e at (pair-each ws (λ p. keeps t s p c ≡ true) 0 (pairCount ws) k (works-each t s c (pairs ws) w) l)
+works-at t s ws c k w l = pair-holds ws (λ p. keeps t s p c ≡ true) (works-each t s c (pairs ws) w) k l
 
 -- the first i pairs, in that order, force nothing more
 abbrev pub ClosedTo : List ℕ → Bool → ℕ → List ℕ → List ℕ → Type 0

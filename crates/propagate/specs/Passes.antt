@@ -32,10 +32,6 @@ PairClosed ws k F M = (t s : ℕ) → Recorded t s ws F → Closed t s (pairAt w
 abbrev pub AllClosed : List ℕ → List ℕ → List ℕ → Type 0
 AllClosed ws F M = (k : ℕ) → k < pairCount ws → PairClosed ws k F M
 
--- the i-th of m places, from the end if down
-abbrev pub placeOf : ℕ → Bool → ℕ → ℕ
-placeOf m down i = cond down (m - 1 - i) i
-
 -- ---- passes until nothing changes
 
 -- what is kept from pass to pass

@@ -9,7 +9,7 @@ ghost use Rattle.list_format.specs.Lists.{pairCount, IsAccepted};
 ghost use Rattle.split_laws.specs.Split.{timings};
 ghost use Rattle.split_laws.specs.Marks.{splitOf};
 ghost use Rattle.propagate.specs.Store.{flagsTo, fourAt, Ready, Prepared, Decided};
-ghost use Rattle.propagate.specs.Passes.{Pass, PairClosed, AllClosed, placeOf, Propagated};
+ghost use Rattle.propagate.specs.Passes.{Pass, PairClosed, AllClosed, Propagated};
 use split_laws::Change;
 
 // The flags of a pair, from the place of the first on.
@@ -35,14 +35,6 @@ fn step(words: &[u32], n: usize, k: usize, scratch: &mut [u32]) -> Change
     marks::settle(&mut scratch[..n], pair, flags)
 }
 
-// The i-th of m places, from the end if down.
-fn place(m: usize, i: usize, down: bool) -> usize
-    requires { ⌜ i < m ⌝ }
-    ensures { λ r. ⌜ (r ≡ placeOf m down i) × (r < m) ⌝ }
-{
-    if down { m - 1 - i } else { i }
-}
-
 // One pass over all pairs.
 fn sweep(words: &[u32], n: usize, m: usize, down: bool, scratch: &mut [u32]) -> Change
     requires { ⌜ Ready (now words) n (now scratch) × (m ≡ pairCount (now words)) ⌝ }
@@ -51,7 +43,7 @@ fn sweep(words: &[u32], n: usize, m: usize, down: bool, scratch: &mut [u32]) -> 
     let mut all = Change::Settled;
     let mut i = 0;
     while i < m {
-        let o = step(words, n, place(m, i, down), scratch);
+        let o = step(words, n, delay_list::place(m, i, down), scratch);
         all = marks::join(all, o);
         i += 1;
     }
@@ -88,24 +80,12 @@ fn record_broken(words: &[u32], period: u32, offset: u32, m: usize, flags: &mut 
     }
 }
 
-// The first k places are set to 0.
-pub fn clear(places: &mut [u32], k: usize)
-    requires { ⌜ k ≤ length (now places) ⌝ }
-    ensures { λ _. ⌜ now (places .exit) ≡ replicate k 0 ++ drop k (now (places .entry)) ⌝ }
-{
-    let mut i = 0;
-    while i < k {
-        places[i] = 0;
-        i += 1;
-    }
-}
-
 // Blank marks, and the broken choices of the pairs in the part of the scratch from place 6n on.
 fn prepare(words: &[u32], period: u32, offset: u32, n: usize, m: usize, scratch: &mut [u32])
     requires { ⌜ Ready (now words) n (now scratch) × (m ≡ pairCount (now words)) ⌝ }
     ensures { λ _. ⌜ Prepared period offset (now (words .entry)) n (now (scratch .entry)) (now (scratch .exit)) ⌝ }
 {
-    clear(scratch, n);
+    buffers::clear(scratch, n);
     let cut = 6 * n;
     record_broken(words, period, offset, m, &mut scratch[cut..]);
 }

@@ -10,16 +10,15 @@ use lib.ListN.{length, length-set}
 use Rattle.timing.specs.declared.Pair.{Pair}
 use Rattle.timing.specs.Rules.{time, Each, InRange}
 use Rattle.timing.specs.Limits.{maxTiming}
-use Rattle.list_format.specs.Lists.{pairCount, pairAt, pairs, PairIn, IsPair}
-use Rattle.list_format.proofs.ListLaws.{accepted-in, each-pair}
+use Rattle.list_format.specs.Lists.{pairCount, pairAt, pairs, PairIn, IsPair, placeOf}
+use Rattle.list_format.proofs.ListLaws.{accepted-in, each-pair, pair-holds}
 use Rattle.free_laws.proofs.RuleList as rule-list
 use Rattle.free_laws.proofs.RuleList.{Meets, setup, hold, rules, each-rule}
 use Rattle.free_laws.proofs.Sweep.{Below, Reach, reach-more}
 use Rattle.free_laws.proofs.Rounds.{Capped}
 use Rattle.free_laws.proofs.Cycle.{Among}
 use Rattle.free_laws.proofs.Cap.{raiseTo, raise-capped, relaxTo, relaxed, RoundTo}
-use Rattle.checker.proofs.PlaceLaws.{pair-holds}
-use Rattle.rounds.specs.Raise.{Raisable, Relaxable, Raising, placeOf}
+use Rattle.rounds.specs.Raise.{Raisable, Relaxable, Raising}
 
 -- a register raised leaves a schedule that can be raised
 pub raised : {x y : List ℕ} (r v : ℕ) → Raisable x → y ≡ raiseTo maxTiming r v x → Raisable y

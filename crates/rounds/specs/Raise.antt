@@ -28,7 +28,3 @@ pub record Raising (ws : List ℕ) (count t : ℕ) (x : List ℕ) : Type 0 where
   pub ready : Ready ws count x
   pub capped : Capped maxTiming x
   pub period : t ≤ maxPeriod
-
--- the i-th of m places, from the end if down
-abbrev pub placeOf : ℕ → Bool → ℕ → ℕ
-placeOf m down i = cond down (m - 1 - i) i

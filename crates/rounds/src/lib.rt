@@ -7,17 +7,12 @@ ghost use Rattle.timing.specs.Limits.{maxDelay, maxTiming};
 ghost use Rattle.list_format.specs.Lists.{pairs};
 ghost use Rattle.free_laws.proofs.RuleList.{rules};
 ghost use Rattle.free_laws.proofs.Cap.{raiseTo, relaxTo, RoundTo};
-ghost use Rattle.rounds.specs.Raise.{Raisable, Relaxable, Raising, placeOf};
+ghost use Rattle.rounds.specs.Raise.{Raisable, Relaxable, Raising};
 use timing::Pair;
+use timing::smaller;
 
 // Places for the parent of each register: the rule that raised it last, 2k for setup of pair k and 2k + 1 for its hold.
 pub const PARENTS: usize = timing::MAX_REGISTERS as usize;
-
-fn smaller(a: u32, b: u32) -> u32
-    ensures { λ r. ⌜ r ≡ min a b ⌝ }
-{
-    if a < b { a } else { b }
-}
 
 // Register r raised until it is at least v with the slack added, but not past the limit of a timing.
 // The answer is the register raised last.
@@ -65,14 +60,6 @@ fn relax(
     raise(x, parents, a, to, p.least, rule + 1, first)
 }
 
-// The i-th of m places, from the end if down.
-fn place(m: usize, i: usize, down: bool) -> usize
-    requires { ⌜ i < m ⌝ }
-    ensures { λ r. ⌜ r ≡ placeOf m down i ⌝ }
-{
-    if down { m - 1 - i } else { i }
-}
-
 // One round over the pairs, up or down the list. The answer is the register raised last, or the count of registers
 // if none was.
 pub fn round(
@@ -89,7 +76,7 @@ pub fn round(
     let mut last = x.len();
     let mut i = 0;
     while i < count {
-        let k = place(count, i, down);
+        let k = delay_list::place(count, i, down);
         let p = delay_list::pair_at(words, k);
         last = relax(x, parents, p, period, k, last);
         i += 1;

@@ -40,11 +40,11 @@ fn show(
 {
     let end = 6 * n + 4 * m;
     if !propagate::decide(words, period, offset, n, m, scratch) {
-        propagate::clear(scratch, end);
+        buffers::clear(scratch, end);
         return Splitting::NoSplit;
     }
     propagate::write_split(scratch, n, offset, answer);
-    propagate::clear(scratch, end);
+    buffers::clear(scratch, end);
     Splitting::Split
 }
 

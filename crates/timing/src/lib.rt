@@ -1,6 +1,7 @@
 // A pair of registers with the delays of the logic between them, and its two timing rules.
 // The contracts cite `specs/Rules.antt`; the limits stand again, one by one, in `specs/Limits.antt`.
 ghost use mathlib.Core.Path.{_≡_};
+ghost use Prim.Native.Nat.{_-_, max, min};
 ghost use Rattle.timing.specs.Rules.{setupMet, holdMet};
 
 // The limits of a delay list and of a call, each named once. Times are in picoseconds.
@@ -38,4 +39,23 @@ impl Pair {
     {
         (capture_time as u64) <= (launch_time as u64) + (self.least as u64)
     }
+}
+
+pub fn larger(a: u32, b: u32) -> u32
+    ensures { λ r. ⌜ r ≡ max a b ⌝ }
+{
+    if a < b { b } else { a }
+}
+
+pub fn smaller(a: u32, b: u32) -> u32
+    ensures { λ r. ⌜ r ≡ min a b ⌝ }
+{
+    if a < b { a } else { b }
+}
+
+// a - b, or 0 where b is more.
+pub fn less(a: u32, b: u32) -> u32
+    ensures { λ r. ⌜ r ≡ a - b ⌝ }
+{
+    if b < a { a - b } else { 0 }
 }

@@ -31,12 +31,5 @@ pub first-broken-spec : {M : Type 1} → statement M
 first-broken-spec =
     tie.close
     (tie.spec
-    Inv-loop
-    μ-loop
-    (λ c. looked-start)
-    meets-requires
-    (λ c. search needs)
-    (λ c. search needs)
-    loop-again
-    returns
+    Inv-loop μ-loop (λ c. looked-start) meets-requires (λ c. search needs) (λ c. search needs) loop-again returns
     returns-2)

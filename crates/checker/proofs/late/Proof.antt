@@ -25,13 +25,5 @@ pub late-spec : {M : Type 1} → statement M
 late-spec =
     tie.close
     (tie.spec
-    Inv-loop
-    μ-loop
-    (λ c. unseen-start)
-    (λ c. search needs)
-    (λ c. search needs)
-    returns
-    (λ c. search needs)
-    (λ c. search needs)
-    loop-again
-    returns-2)
+    Inv-loop μ-loop (λ c. unseen-start) (λ c. search needs) (λ c. search needs) returns (λ c. search needs)
+    (λ c. search needs) loop-again returns-2)

@@ -48,13 +48,5 @@ pub climb-spec : {M : Type 1} → statement M
 climb-spec =
     tie.close
     (tie.spec
-    Inv-loop
-    μ-loop
-    (λ c κs. search needs)
-    trial-requires
-    loop-holds
-    trial-requires-2
-    loop-less
-    loop-again
-    same-length
-    returns)
+    Inv-loop μ-loop (λ c κs. search needs) trial-requires loop-holds trial-requires-2 loop-less loop-again
+    same-length returns)

@@ -28,10 +28,4 @@ pub judge-spec : {M : Type 1} → statement M
 judge-spec =
     tie.close
     (tie.spec
-    (λ c. search needs)
-    cycle-requires
-    returns
-    returns-2
-    (λ c κs. search needs)
-    returns-3
-    returns-4)
+    (λ c. search needs) cycle-requires returns returns-2 (λ c κs. search needs) returns-3 returns-4)

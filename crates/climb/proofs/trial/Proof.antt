@@ -63,20 +63,6 @@ pub trial-spec : {M : Type 1} → statement M
 trial-spec =
     tie.close
     (tie.spec
-    Inv-loop
-    μ-loop
-    (λ c κs. search needs)
-    loop-holds
-    round-requires
-    judge-requires
-    same-length
-    returns
-    (λ c. search needs)
-    loop-less
-    loop-again
-    passes-requires
-    same-length-2
-    returns-2
-    add-result
-    same-length-3
+    Inv-loop μ-loop (λ c κs. search needs) loop-holds round-requires judge-requires same-length returns
+    (λ c. search needs) loop-less loop-again passes-requires same-length-2 returns-2 add-result same-length-3
     returns-3)

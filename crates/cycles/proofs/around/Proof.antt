@@ -44,13 +44,5 @@ pub around-spec : {M : Type 1} → statement M
 around-spec =
     tie.close
     (tie.spec
-    Inv-loop
-    μ-loop
-    (λ c κs. search needs)
-    back-requires
-    loop-holds
-    back-requires-2
-    loop-less
-    loop-again
-    needed-requires
-    returns)
+    Inv-loop μ-loop (λ c κs. search needs) back-requires loop-holds back-requires-2 loop-less loop-again
+    needed-requires returns)

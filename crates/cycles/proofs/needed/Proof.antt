@@ -22,10 +22,5 @@ pub needed-spec : {M : Type 1} → statement M
 needed-spec =
     tie.close
     (tie.spec
-    (λ c. search needs)
-    (λ c. search needs)
-    (λ c. search needs)
-    add-result
-    returns
-    (λ c. search needs)
+    (λ c. search needs) (λ c. search needs) (λ c. search needs) add-result returns (λ c. search needs)
     (λ c. search needs))

@@ -34,11 +34,4 @@ pub origin-spec : {M : Type 1} → statement M
 origin-spec =
     tie.close
     (tie.spec
-    Inv-loop
-    μ-loop
-    (λ c κs. search needs)
-    loop-holds
-    back-requires
-    loop-less
-    loop-again
-    returns)
+    Inv-loop μ-loop (λ c κs. search needs) loop-holds back-requires loop-less loop-again returns)

@@ -21,14 +21,6 @@ pub pair-at-spec : {M : Type 1} → statement M
 pair-at-spec =
     tie.close
     (tie.spec
-    (λ c κs. search needs)
-    (λ c. search needs)
-    shared-slice-read-pair-of
-    (λ c. search needs)
-    (λ c. search needs)
-    shared-slice-read-pair-of-2
-    (λ c. search needs)
-    (λ c. search needs)
-    shared-slice-read-pair-of-3
-    (λ c κs. search needs)
-    returns)
+    (λ c κs. search needs) (λ c. search needs) shared-slice-read-pair-of (λ c. search needs) (λ c. search needs)
+    shared-slice-read-pair-of-2 (λ c. search needs) (λ c. search needs) shared-slice-read-pair-of-3
+    (λ c κs. search needs) returns)

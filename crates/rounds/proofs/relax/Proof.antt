@@ -25,17 +25,6 @@ pub relax-spec : {M : Type 1} → statement M
 relax-spec =
     tie.close
     (tie.spec
-    (λ c. search needs)
-    (λ c. search needs)
-    (λ c. search needs)
-    (λ c. search needs)
-    (λ c. search needs)
-    (λ c. search needs)
-    add-raise
-    (λ c κs. search needs)
-    (λ c. search needs)
-    (λ c. search needs)
-    (λ c. search needs)
-    raise-requires-2
-    (λ c. search needs)
-    returns)
+    (λ c. search needs) (λ c. search needs) (λ c. search needs) (λ c. search needs) (λ c. search needs)
+    (λ c. search needs) add-raise (λ c κs. search needs) (λ c. search needs) (λ c. search needs) (λ c. search needs)
+    raise-requires-2 (λ c. search needs) returns)

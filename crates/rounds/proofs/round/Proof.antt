@@ -17,17 +17,17 @@ loop-holds c = part-start (c .before .before .pre) (c .before .before .args .dow
 pair-at-requires : tie.Need-pair-at-requires Inv-loop μ-loop
 pair-at-requires c κs =
     let b = c .before .before .before .before .before in
-    turn-pair (b .pre) (b .args .down) (c .before .before .loop .inv) (c .before .loop-test .taken) (c .place .ensures)
+    turn-pair (b .pre) (b .args .down) (c .before .before .loop .inv) (c .before .loop-test .taken) (c .place .ensures .0)
 
 relax-requires : tie.Need-relax-requires Inv-loop μ-loop
 relax-requires c κs =
     let b = c .before .before .before .before .before .before .before .before in
-    turn-ready (b .pre) (b .args .down) (c .before .before .before .before .before .loop .inv) (c .before .before .before .before .loop-test .taken) (c .before .before .before .place .ensures) (c .before .before .pair-at .ensures)
+    turn-ready (b .pre) (b .args .down) (c .before .before .before .before .before .loop .inv) (c .before .before .before .before .loop-test .taken) (c .before .before .before .place .ensures .0) (c .before .before .pair-at .ensures)
 
 loop-again : tie.Need-loop-again Inv-loop μ-loop
 loop-again c =
     let b = c .before .before .before .before .before .before .before .before .before .before .before in
-    part-turn (b .pre) (b .args .down) (c .before .before .before .before .before .before .before .before .loop .inv) (c .before .before .before .before .before .before .before .loop-test .taken) (c .before .before .before .before .before .before .place .ensures) (c .before .before .before .before .before .pair-at .ensures) (c .before .before .relax .ensures)
+    part-turn (b .pre) (b .args .down) (c .before .before .before .before .before .before .before .before .loop .inv) (c .before .before .before .before .before .before .before .loop-test .taken) (c .before .before .before .before .before .before .place .ensures .0) (c .before .before .before .before .before .pair-at .ensures) (c .before .before .relax .ensures)
 
 returns : tie.Need-returns Inv-loop μ-loop
 returns c =
@@ -38,14 +38,5 @@ pub round-spec : {M : Type 1} → statement M
 round-spec =
     tie.close
     (tie.spec
-    Inv-loop
-    μ-loop
-    loop-holds
-    (λ c κs. search needs)
-    pair-at-requires
-    relax-requires
-    (λ c. search needs)
-    (λ c. search needs)
-    loop-again
-    (λ c. search needs)
-    returns)
+    Inv-loop μ-loop loop-holds (λ c κs. search needs) pair-at-requires relax-requires (λ c. search needs)
+    (λ c. search needs) loop-again (λ c. search needs) returns)

@@ -46,14 +46,5 @@ pub put-pairs-spec : {M : Type 1} → statement M
 put-pairs-spec =
     tie.close
     (tie.spec
-    Inv-loop
-    μ-loop
-    loop-holds
-    (λ c κs. search needs)
-    (λ c κs. search needs)
-    put-requires
-    (λ c. search needs)
-    (λ c. search needs)
-    loop-again
-    same-length
-    returns)
+    Inv-loop μ-loop loop-holds (λ c κs. search needs) (λ c κs. search needs) put-requires (λ c. search needs)
+    (λ c. search needs) loop-again same-length returns)

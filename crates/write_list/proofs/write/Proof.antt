@@ -27,10 +27,5 @@ pub write-spec : {M : Type 1} → statement M
 write-spec =
     tie.close
     (tie.spec
-    (λ c κs. search needs)
-    (λ c. search needs)
-    (λ c. search needs)
-    put-list-requires
-    returns
-    (λ c. search needs)
+    (λ c κs. search needs) (λ c. search needs) (λ c. search needs) put-list-requires returns (λ c. search needs)
     returns-2)

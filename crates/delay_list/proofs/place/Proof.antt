@@ -1,8 +1,8 @@
 -- `place`: from the end if down.
 use native.Mathlib.Omega.{arith}
 use borrow.Author.Needs.{needs}
-use Rattle.propagate.proofs.place.Statement.{statement}
-use Rattle.propagate.proofs.place.Tie as tie
+use Rattle.delay_list.proofs.place.Statement.{statement}
+use Rattle.delay_list.proofs.place.Tie as tie
 
 returns : tie.Need-returns
 returns c = (rw (c .if1 .taken), omega arith)

@@ -7,8 +7,8 @@ use native.Mathlib.Omega.{arith}
 use lib.ListN.{length, drop, set, replicate, length-set}
 use borrow.Author.Fill.{fill-more}
 use borrow.Author.Needs.{needs}
-use Rattle.propagate.proofs.clear.Statement.{statement}
-use Rattle.propagate.proofs.clear.Tie as tie
+use Rattle.buffers.proofs.clear.Statement.{statement}
+use Rattle.buffers.proofs.clear.Tie as tie
 
 abbrev Inv-loop : tie.InvT-loop
 Inv-loop places₀ k i₀ places i = (i ≤ k) × (length places ≡ length places₀) × (places ≡ replicate i 0 ++ drop i places₀)
