@@ -67,3 +67,46 @@ pub fn advance(s: &mut [u32], n: usize, most: u32) -> bool {
     }
     false
 }
+
+fn set(s: &mut [u32], i: usize, v: u32) {
+    if i < s.len() {
+        s[i] = v;
+    }
+}
+
+fn timing_of(offset: u32, choice: u32) -> u32 {
+    if choice == 1 { offset } else { 0 }
+}
+
+// The timings of split v of n registers: its last digit in base two is the last register's choice.
+fn timings(v: u32, n: usize, offset: u32, s: &mut [u32]) {
+    let mut rest = v;
+    let mut i = n;
+    while i > 0 {
+        i -= 1;
+        set(s, i, timing_of(offset, rest % 2));
+        rest = rest / 2;
+    }
+}
+
+// The first split of n registers that works, up to six of them; its timings are left in s. False if none does.
+pub fn first_split(
+    numbers: &[u32],
+    n: usize,
+    m: usize,
+    period: u32,
+    offset: u32,
+    s: &mut [u32],
+) -> bool
+    requires { ⌜ m ≤ 2048 ⌝ }
+{
+    let mut v: u32 = 0;
+    while v < 64 {
+        timings(v, n, offset, s);
+        if broken(numbers, m, period, s) == 2 * m {
+            return true;
+        }
+        v += 1;
+    }
+    false
+}

@@ -12,42 +12,6 @@ use trial_kit::show;
 use trial_kit::tally::Tally;
 ghost use Prim.Native.Nat.{_≤_};
 
-fn set(s: &mut [u32], i: usize, v: u32) {
-    if i < s.len() {
-        s[i] = v;
-    }
-}
-
-fn timing_of(offset: u32, choice: u32) -> u32 {
-    if choice == 1 { offset } else { 0 }
-}
-
-// The timings of split v of n registers: its last digit in base two is the last register's choice.
-fn timings(v: u32, n: usize, offset: u32, s: &mut [u32]) {
-    let mut rest = v;
-    let mut i = n;
-    while i > 0 {
-        i -= 1;
-        set(s, i, timing_of(offset, rest % 2));
-        rest = rest / 2;
-    }
-}
-
-// The first split of n registers that works, up to four of them; false if none does.
-fn first(numbers: &[u32], n: usize, m: usize, period: u32, offset: u32, s: &mut [u32]) -> bool
-    requires { ⌜ m ≤ 2048 ⌝ }
-{
-    let mut v: u32 = 0;
-    while v < 16 {
-        timings(v, n, offset, s);
-        if rules::broken(numbers, m, period, s) == 2 * m {
-            return true;
-        }
-        v += 1;
-    }
-    false
-}
-
 // Whether the answer is right: the split or the buffer as it was, and the scratch zero where it was used.
 fn right(
     yes: bool,
@@ -79,7 +43,7 @@ fn tried(words: &[u32], numbers: &[u32], n: usize, m: usize, period: u32, offset
     let mut answer = [DIRT; 6];
     let mut scratch = [DIRT; 50];
     let mut s = [0u32; 4];
-    let yes = first(numbers, n, m, period, offset, &mut s);
+    let yes = rules::first_split(numbers, n, m, period, offset, &mut s);
     let r = split::split(words, period, offset, &mut answer, &mut scratch);
     right(yes, r, &s, n, 6 * n + 4 * m, &answer, &scratch)
 }

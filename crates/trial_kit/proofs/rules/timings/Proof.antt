@@ -1,8 +1,8 @@
 use mathlib.Core.Path.{_≡_, _∙_}
 use lib.ListN.{length}
 use borrow.Author.Needs.{needs}
-use Rattle.trial_splits.proofs.search.timings.Statement.{statement}
-use Rattle.trial_splits.proofs.search.timings.Tie as tie
+use Rattle.trial_kit.proofs.rules.timings.Statement.{statement}
+use Rattle.trial_kit.proofs.rules.timings.Tie as tie
 
 abbrev Inv-loop : tie.InvT-loop
 Inv-loop v n offset s₀ rest₀ i₀ s rest i = length s ≡ length s₀
