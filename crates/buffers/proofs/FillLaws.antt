@@ -1,7 +1,7 @@
 -- A buffer that is filled from the front, stretch by stretch.
 use mathlib.Core.Path.{_≡_, refl, sym, _∙_, ap}
 use mathlib.Core.List.{List, [], _∷_, _++_, append-assoc, append-nil}
-use Prim.Native.Nat.{ℕ, suc, _+_, _*_, _≤_, _<_}
+use Prim.Native.Nat.{ℕ, suc, _+_, _-_, _*_, _≤_, _<_}
 use native.Mathlib.Nat.{mul-le-mul-left, mul-suc}
 use native.Mathlib.Numerals.{add-one}
 use native.Mathlib.Omega.{arith}
@@ -85,3 +85,9 @@ module _ {before : List ℕ} {f : ℕ → List ℕ} {m : ℕ} {was now : List �
 pub over-first : (was xs : List ℕ) (v : ℕ) → 0 < length was → over (take 1 (set was 0 v) ++ xs) (set was 0 v) ≡ over (v ∷ xs) was
 over-first [] xs v h = absurd (omega arith)
 over-first (w ∷ was) xs v h = refl
+
+-- lists that agree from place n on agree from every later place on
+pub drop-further : (n k : ℕ) (S S′ : List ℕ) → n ≤ k → drop n S′ ≡ drop n S → drop k S′ ≡ drop k S
+drop-further n k S S′ h e =
+    let z : k ≡ n + (k - n) = omega arith in
+    rw (z, ← drop-drop (k - n) n S, ← drop-drop (k - n) n S′, e)

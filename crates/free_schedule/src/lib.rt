@@ -10,7 +10,7 @@ pub enum FreeAnswer {
 }
 
 // The free period of an accepted list of n registers; the free schedule fills the first n places.
-fn fill(words: &[u32], n: usize, count: usize, answer: &mut [u32]) -> u32
+pub fn fill(words: &[u32], n: usize, count: usize, answer: &mut [u32]) -> u32
     requires { ⌜ Roomy (now words) n count (now answer) ⌝ }
     ensures { λ r. ⌜ FreeIn (now (words .entry)) (now (answer .entry)) (now (answer .exit)) r ⌝ }
 {

@@ -1,13 +1,15 @@
 -- What a call for the full plan comes to.
-use Prim.Native.Nat.{ℕ, _*_}
+use Prim.Native.Nat.{ℕ, _*_, _≤_}
 use mathlib.Core.List.{List, [], _∷_, _++_}
 use mathlib.Core.Path.{_≡_}
 use lib.Dec.{ltb}
 use lib.ListN.{length, take, drop}
 use Rattle.timing.specs.Limits.{scratchPlaces}
-use Rattle.refusals.specs.Checks.{Check}
+use Rattle.buffers.specs.Over.{over}
+use Rattle.refusals.specs.Checks.{Check, firstFault}
+use Rattle.refusals.specs.declared.Fault.the-variants.{None}
 use Rattle.refusals.specs.Reply.{Reply, refusal, numbers, Outcome, done, replyOf, bufferAfter, scratchAfter, answered}
-use Rattle.list_format.specs.Lists.{registers, pairCount, pairs, listChecks}
+use Rattle.list_format.specs.Lists.{registers, pairCount, pairs, listChecks, IsAccepted}
 use Rattle.free_laws.specs.Free.{common, freePeriod, freeSchedule}
 use Rattle.plan_laws.specs.Plan.{twoPeriod, twoOffset, twoTimings}
 use Rattle.plan_laws.specs.Unbeaten.{Unbeaten}
@@ -46,3 +48,20 @@ pub record PlanAs (ws answer answer′ scratch scratch′ : List ℕ) (r : Plann
   -- no rival beats the numbers returned and the timings in the first 2n places
   pub unbeaten : (common free two offset : ℕ) → r ≡ Planned common free two offset
       → Unbeaten (registers ws) (pairs ws) common free two offset (take (registers ws) answer′) (take (registers ws) (drop (registers ws) answer′))
+
+-- ---- a call that no refusal fits
+
+-- of an accepted list with n registers and m pairs, with `room` places for the answer and `spare` places of scratch
+pub record Allowed (ws : List ℕ) (n m room spare : ℕ) : Type 0 where
+  pub none : firstFault (planChecks ws room spare) ≡ None
+  pub accepted : IsAccepted ws
+  pub registersAre : n ≡ registers ws
+  pub pairsAre : m ≡ pairCount ws
+  pub answers : 2 * n ≤ room
+  pub scratches : scratchPlaces n m ≤ spare
+
+-- the two-timing period, with the split's timings in the n places from place n on; the scratch is used up to place n
+pub record TwoIn (ws : List ℕ) (n : ℕ) (answer answer′ scratch scratch′ : List ℕ) (two : ℕ) : Type 0 where
+  pub period : two ≡ twoPeriod (registers ws) (pairs ws)
+  pub places : answer′ ≡ over (take n answer ++ twoTimings (registers ws) (pairs ws)) answer
+  pub rest : drop n scratch′ ≡ drop n scratch

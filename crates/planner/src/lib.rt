@@ -1,8 +1,71 @@
 // The full plan of a delay list: the common, the free and the two-timing period, the offset, the free timings and the split.
 // The contracts cite `specs/PlanCall.antt`, and the definitions of `free_laws`, `split_laws` and `plan_laws`.
+ghost use mathlib.Core.Path.{_≡_};
+ghost use lib.ListN.{length};
+ghost use Rattle.refusals.specs.Checks.{firstFault};
+ghost use Rattle.planner.specs.PlanCall.{callChecks, Allowed, TwoIn, PlanAs};
+ghost use Rattle.list_format.specs.Lists.{pairs};
+ghost use Rattle.free_laws.specs.Free.{common as commonOf};
+use list_format::Verdict;
+use refusals::Fault;
 
 // The common, the free and the two-timing period and the offset, or a refusal with its place.
 pub enum Planning {
     Planned(u32, u32, u32, u32),
     Refused(u32, usize),
+}
+
+// The caller's checks: 2 for an answer buffer of fewer than 2n places, 1 for too little scratch.
+fn call_fault(n: u32, m: u32, room: usize, spare: usize) -> Fault
+    ensures { λ r. ⌜ r ≡ firstFault (callChecks n m room spare) ⌝ }
+{
+    Fault::None
+        .or(room < 2 * (n as usize), 2, 0)
+        .or(spare < 6 * (n as usize) + 4 * (m as usize), 1, 0)
+}
+
+// The two-timing period of an accepted list with that common period; the split's timings fill n places from place n on.
+// The first n places of the scratch are used.
+fn fill_split(
+    words: &[u32],
+    n: usize,
+    m: usize,
+    common: u32,
+    answer: &mut [u32],
+    scratch: &mut [u32],
+) -> u32
+    requires { ⌜ Allowed (now words) n m (length (now answer)) (length (now scratch)) × (common ≡ commonOf (pairs (now words))) ⌝ }
+    ensures { λ r. ⌜ TwoIn (now (words .entry)) n (now (answer .entry)) (now (answer .exit)) (now (scratch .entry)) (now (scratch .exit)) r ⌝ }
+{
+    let two = reach::two_period(words, m, common, &mut scratch[..n]);
+    reach::write_split(scratch, n, two, common - two, answer);
+    two
+}
+
+// The plan of an accepted list with n registers and m pairs; the scratch is left zero.
+fn show(words: &[u32], n: usize, m: usize, answer: &mut [u32], scratch: &mut [u32]) -> Planning
+    requires { ⌜ Allowed (now words) n m (length (now answer)) (length (now scratch)) ⌝ }
+    ensures { λ r. ⌜ PlanAs (now (words .entry)) (now (answer .entry)) (now (answer .exit)) (now (scratch .entry)) (now (scratch .exit)) r ⌝ }
+{
+    let common = climb::common(words, m);
+    let free = free_schedule::fill(words, n, m, answer);
+    let two = fill_split(words, n, m, common, answer, scratch);
+    buffers::clear(scratch, 6 * n + 4 * m);
+    let offset = common - two;
+    Planning::Planned(common, free, two, offset)
+}
+
+// Refusals 11 to 17 of the list, then 2 and 1. Else the three periods and the offset; the free timings fill the first n
+// places of the answer buffer, the split's timings the next n, and 6n + 4m places of scratch are left zero.
+// All later places keep their contents; a refusal changes nothing.
+pub fn plan(words: &[u32], answer: &mut [u32], scratch: &mut [u32]) -> Planning
+    ensures { λ r. ⌜ PlanAs (now (words .entry)) (now (answer .entry)) (now (answer .exit)) (now (scratch .entry)) (now (scratch .exit)) r ⌝ }
+{
+    match delay_list::verdict(words) {
+        Verdict::Refused(number, place) => Planning::Refused(number, place),
+        Verdict::Accepted(n, m) => match call_fault(n, m, answer.len(), scratch.len()) {
+            Fault::At(number, place) => Planning::Refused(number, place),
+            Fault::None => show(words, n as usize, m as usize, answer, scratch),
+        },
+    }
 }

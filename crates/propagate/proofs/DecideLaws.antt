@@ -6,6 +6,7 @@ use Prim.Native.Nat.{ℕ, zero, suc, _+_, _-_, _*_}
 use native.Mathlib.Omega.{arith}
 use lib.ListN.{length, getD, take, drop, replicate, length-append, length-drop, length-replicate}
 use lib.Seq.{drop-at, take-at, take-take, take-append-le, drop-drop, length-take-le}
+use Rattle.buffers.proofs.FillLaws.{drop-further}
 use Rattle.buffers.specs.Over.{over}
 use Rattle.list_format.specs.Lists.{pairCount, pairs}
 use Rattle.list_format.proofs.ListLaws.{each-pair}
@@ -14,7 +15,7 @@ use Rattle.split_laws.specs.Marks.{Agrees, splitOf, Closed}
 use Rattle.split_laws.proofs.ClosureLaws.{first-none, first-found}
 use Rattle.propagate.specs.Store.{flagsTo, Ready, Prepared, Decided, chosen}
 use Rattle.propagate.specs.Passes.{Working, Propagated}
-use Rattle.propagate.proofs.StoreLaws.{drop-further, flags-length, recorded, brought-back}
+use Rattle.propagate.proofs.StoreLaws.{flags-length, recorded, brought-back}
 
 module _ (t s : ℕ) (ws : List ℕ) (n : ℕ) where
   -- ---- the marks cleared, and the flags recorded in the part lent

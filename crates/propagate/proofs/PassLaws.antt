@@ -7,6 +7,7 @@ use native.Mathlib.Omega.{arith}
 use lib.ListN.{length, take, drop, length-append, length-drop}
 use lib.Seq.{drop-at, take-at, length-take-le}
 use borrow.Author.Count.{below-more}
+use Rattle.buffers.proofs.FillLaws.{drop-further}
 use Rattle.timing.specs.declared.Pair.{Pair}
 use Rattle.timing.specs.Rules.{Each}
 use Rattle.list_format.specs.Lists.{pairCount, pairAt, pairsFrom, pairs, placeOf}
@@ -19,7 +20,7 @@ use Rattle.split_laws.proofs.MarkLaws.{kept-none, kept-then, step-none, step-th
 use Rattle.split_laws.proofs.ClosureLaws.{works-each}
 use Rattle.propagate.specs.Store.{fourAt, Recorded}
 use Rattle.propagate.specs.Passes.{Working, Pass, PairClosed, AllClosed, Carried, Propagated}
-use Rattle.propagate.proofs.StoreLaws.{drop-further, four-drop}
+use Rattle.propagate.proofs.StoreLaws.{four-drop}
 
 works-at : (t s : ℕ) (ws : List ℕ) (c : List Bool) (k : ℕ) → works t s (pairs ws) c ≡ true → k < pairCount ws → keeps t s (pairAt ws k) c ≡ true
 works-at t s ws c k w l = pair-holds ws (λ p. keeps t s p c ≡ true) (works-each t s c (pairs ws) w) k l

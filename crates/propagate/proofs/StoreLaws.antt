@@ -18,12 +18,6 @@ use Rattle.propagate.specs.Store.{flagsTo, fourAt, Recorded, Ready}
 pub ready-kept : {ws : List ℕ} {n : ℕ} {S S′ : List ℕ} → Ready ws n S → length S′ ≡ length S → Ready ws n S′
 ready-kept r e = record { accepted = r .accepted; registersAre = r .registersAre; room = rw e (r .room) }
 
--- lists that agree from place n on agree from every later place on
-pub drop-further : (n k : ℕ) (S S′ : List ℕ) → n ≤ k → drop n S′ ≡ drop n S → drop k S′ ≡ drop k S
-drop-further n k S S′ h e =
-    let z : k ≡ n + (k - n) = omega arith in
-    rw (z, ← drop-drop (k - n) n S, ← drop-drop (k - n) n S′, e)
-
 -- ---- flags
 
 pub flags-length : (t s : ℕ) (ws : List ℕ) (q : ℕ) → length (flagsTo t s ws q) ≡ q

@@ -1,0 +1,7 @@
+pub mod FoundLaws
+pub mod OffsetLaws
+pub mod TwoLaws
+pub mod UnbeatenLaws
+pub mod ReachLaws
+pub mod StepLaws
+pub mod ReachTwo

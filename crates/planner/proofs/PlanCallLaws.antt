@@ -1,0 +1,180 @@
+-- The buffers part by part, and the ways that a call can end, each with the whole promise.
+use Prim.Native.Nat.{ℕ, _+_, _-_, _*_, _≤_}
+use mathlib.Core.List.{List, [], _∷_, _++_, append-assoc}
+use mathlib.Core.Path.{_≡_, refl, ap, sym, _∙_}
+use native.Mathlib.Omega.{arith}
+use borrow.Author.Tests.{ltb-false}
+use lib.ListN.{length, take, drop, replicate, length-append, length-drop, length-replicate}
+use lib.Seq.{length-take-le, take-at, drop-at}
+use Rattle.timing.specs.Limits.{scratchPlaces}
+use Rattle.buffers.specs.Over.{over}
+use Rattle.buffers.proofs.FillLaws.{Filled, filled-put, drop-further}
+use Rattle.refusals.specs.Checks.{firstFault}
+use Rattle.refusals.specs.Reply.{refused, done, replyOf, bufferAfter, scratchAfter}
+use Rattle.refusals.specs.declared.Fault.{Fault}
+use Rattle.refusals.specs.declared.Fault.the-variants.{None, At}
+use Rattle.refusals.proofs.CheckLaws.{pass-both, passed}
+use Rattle.refusals.proofs.ReplyLaws.{answered-done, first-refused, then-refused}
+use Rattle.list_format.specs.Lists.{registers, pairCount, pairs, listChecks, verdict}
+use Rattle.list_format.specs.declared.Verdict.the-variants.{Accepted}
+use Rattle.list_format.specs.declared.Verdict.the-variants.{Refused as ListRefused}
+use Rattle.list_format.proofs.ListLaws.{refused→fault, accepted→none, none→accepted, pairs-in-range}
+use Rattle.free_laws.specs.Free.{common, freePeriod, freeSchedule}
+use Rattle.free_schedule.specs.FreeCall.{FreeIn}
+use Rattle.split_laws.specs.Split.{timings}
+use Rattle.plan_laws.specs.Plan.{twoPeriod, twoOffset, twoTimings}
+use Rattle.plan_laws.specs.Unbeaten.{Unbeaten}
+use Rattle.plan_laws.specs.Reach.{lateAbove}
+use Rattle.plan_laws.proofs.TwoLaws.{two-common}
+use Rattle.plan_laws.proofs.UnbeatenLaws.{plan-unbeaten}
+use Rattle.checker.specs.Check.{Ready}
+use Rattle.reach.specs.Settling.{Reached}
+use Rattle.planner.specs.declared.Planning.the-variants.{Planned, Refused}
+use Rattle.planner.specs.PlanCall.{callChecks, planChecks, planning, planReply, PlanAs, Allowed, TwoIn}
+
+-- ---- a refusal changes nothing
+
+module _ (ws answer scratch : List ℕ) where
+  kept : {number place : ℕ} → planning ws (length answer) (length scratch) ≡ refused number place → PlanAs ws answer answer scratch scratch (Refused number place)
+  unfolding replyOf bufferAfter scratchAfter planReply
+  kept e =
+      record {
+        reply = rw e;
+        stored = rw e;
+        left = rw e;
+        unbeaten = λ common free two offset q. let z : _≡_ {A = ℕ} 0 1 = cc in absurd (omega arith);
+      }
+
+  -- the list is refused
+  pub list-refused : {number place : ℕ} → verdict ws ≡ ListRefused number place → PlanAs ws answer answer scratch scratch (Refused number place)
+  unfolding planning
+  list-refused v = kept (first-refused (listChecks ws) _ _ (refused→fault ws v))
+
+  -- the list is accepted, and the caller's checks decide
+  module _ {n m : ℕ} (v : verdict ws ≡ Accepted n m) {f : Fault} (e : f ≡ firstFault (callChecks n m (length answer) (length scratch))) where
+    fault-is : f ≡ firstFault (callChecks (registers ws) (pairCount ws) (length answer) (length scratch))
+    fault-is =
+        let a = accepted→none ws v in
+        rw (a .registersAre, a .pairsAre) at e
+
+    pub call-refused : {number place : ℕ} → f ≡ At number place → PlanAs ws answer answer scratch scratch (Refused number place)
+    unfolding planning
+    call-refused g = kept (then-refused (listChecks ws) _ _ (accepted→none ws v .none) (sym fault-is ∙ g))
+
+    pub call-allowed : f ≡ None → Allowed ws n m (length answer) (length scratch)
+    call-allowed g =
+        let a = accepted→none ws v in
+        let call = callChecks (registers ws) (pairCount ws) (length answer) (length scratch) in
+        let p = passed call (sym fault-is ∙ g) in
+        let h : 2 * registers ws ≤ length answer = ltb-false _ _ (p .0) in
+        let k : scratchPlaces (registers ws) (pairCount ws) ≤ length scratch = ltb-false _ _ (p .1 .0) in
+        record {
+          none = pass-both (listChecks ws) call (a .none) (sym fault-is ∙ g);
+          accepted = none→accepted ws (a .none);
+          registersAre = a .registersAre;
+          pairsAre = a .pairsAre;
+          answers = omega (arith, a .registersAre);
+          scratches = omega (arith, a .registersAre, a .pairsAre);
+        }
+
+-- ---- the common period less the two-timing one
+
+module _ (ws : List ℕ) {top two : ℕ} (e : top ≡ common (pairs ws)) (p : two ≡ twoPeriod (registers ws) (pairs ws)) where
+  pub two-fits : two ≤ top
+  two-fits = omega (arith, p, two-common (registers ws) (pairs ws))
+
+  offset-is : top - two ≡ twoOffset (registers ws) (pairs ws)
+  unfolding twoOffset
+  offset-is = rw (e, p)
+
+-- ---- an allowed call
+
+pub allowed-kept : {ws : List ℕ} {n m room room′ spare : ℕ} → Allowed ws n m room spare → room′ ≡ room → Allowed ws n m room′ spare
+allowed-kept a e = rw e a
+
+module _ {ws : List ℕ} {n m room spare : ℕ} (a : Allowed ws n m room spare) where
+  -- the first n places of the scratch, lent
+  module _ (scratch : List ℕ) (e : length scratch ≡ spare) where
+    pub lent-size : length (take n scratch) ≡ n
+    lent-size = length-take-le n scratch (omega (arith, a .scratches))
+
+    pub lent-ready : Ready ws m (take n scratch)
+    lent-ready = record { accepted = a .accepted; counted = a .pairsAre; timed = lent-size ∙ a .registersAre }
+
+  -- ---- the two-timing period
+
+  module _ {top two : ℕ} (e : top ≡ common (pairs ws)) {W : List ℕ} (r : Reached ws W two) where
+    -- the reaches come back in the first n places, and the split is read from them
+    pub two-filled : (scratch answer : List ℕ) {answer′ : List ℕ} → answer′ ≡ over (take n answer ++ timings (top - two) (lateAbove two (take n (W ++ drop n scratch)))) answer
+        → TwoIn ws n answer answer′ scratch (W ++ drop n scratch) two
+    two-filled scratch answer stored =
+        let size : length W ≡ n = r .size ∙ sym (a .registersAre) in
+        let front : take n (W ++ drop n scratch) ≡ W = take-at W (drop n scratch) n size in
+        record {
+          period = r .period;
+          places = stored ∙ ap (λ (ts : List ℕ). over (take n answer ++ ts) answer) (rw (front, offset-is ws e (r .period)) (sym (r .split)));
+          rest = drop-at W (drop n scratch) n size;
+        }
+
+-- ---- the whole plan
+
+-- two parts, stored one after the other
+over-twice : (xs ys buffer : List ℕ) (n : ℕ) → length xs ≡ n → n + length ys ≤ length buffer → over (take n (over xs buffer) ++ ys) (over xs buffer) ≡ over (xs ++ ys) buffer
+over-twice xs ys buffer n e h =
+    let first : Filled xs buffer (over xs buffer) = record { room = omega (arith, e); is = refl } in
+    filled-put first ys (over (take n (over xs buffer) ++ ys) (over xs buffer)) {at = n} (sym e) h
+    (rw (append-assoc, length-append, length-take-le n (over xs buffer) (rw (length-append, length-drop) (omega (arith, e))))) .is
+
+-- the free timings
+abbrev F : List ℕ → List ℕ
+F ws = freeSchedule (registers ws) (pairs ws)
+
+-- the split's timings
+abbrev C : List ℕ → List ℕ
+C ws = twoTimings (registers ws) (pairs ws)
+
+module _ (ws answer scratch : List ℕ) {n m : ℕ} (a : Allowed ws n m (length answer) (length scratch)) where
+  whole : Unbeaten (registers ws) (pairs ws) (common (pairs ws)) (freePeriod (registers ws) (pairs ws)) (twoPeriod (registers ws) (pairs ws)) (twoOffset (registers ws) (pairs ws)) (F ws) (C ws)
+  whole = plan-unbeaten (registers ws) (pairs ws) (pairs-in-range ws (a .accepted))
+
+  outcome : planning ws (length answer) (length scratch)
+      ≡ done (common (pairs ws) ∷ freePeriod (registers ws) (pairs ws) ∷ twoPeriod (registers ws) (pairs ws) ∷ twoOffset (registers ws) (pairs ws) ∷ []) ((F ws) ++ (C ws))
+  unfolding planning
+  outcome = answered-done (planChecks ws (length answer) (length scratch)) _ (a .none)
+
+  module _ {top free two : ℕ} {A₁ A₂ S₁ S₂ : List ℕ} (e : top ≡ common (pairs ws)) (f : FreeIn ws answer A₁ free) (t : TwoIn ws n A₁ A₂ scratch S₁ two)
+      (cleared : S₂ ≡ replicate (scratchPlaces n m) 0 ++ drop (scratchPlaces n m) S₁) where
+    stored : A₂ ≡ over ((F ws) ++ (C ws)) answer
+    stored =
+        t .places ∙ ap (λ (x : List ℕ). over (take n x ++ (C ws)) x) (f .places)
+        ∙ over-twice (F ws) (C ws) answer n (whole .freely .size ∙ sym (a .registersAre)) (omega (arith, whole .split .size, a .registersAre, a .answers))
+
+    zeros : S₂ ≡ over (replicate (scratchPlaces (registers ws) (pairCount ws)) 0) scratch
+    zeros =
+        cleared
+        ∙ ap (λ (x : List ℕ). replicate (scratchPlaces n m) 0 ++ x) (drop-further n (scratchPlaces n m) scratch S₁ (omega arith) (t .rest))
+        ∙ rw (length-replicate, a .registersAre, a .pairsAre)
+
+    front : take (registers ws) A₂ ≡ (F ws)
+    front = ap (take (registers ws)) (stored ∙ append-assoc (F ws) (C ws) _) ∙ take-at (F ws) _ (registers ws) (whole .freely .size)
+
+    behind : take (registers ws) (drop (registers ws) A₂) ≡ (C ws)
+    behind =
+        ap (λ (x : List ℕ). take (registers ws) (drop (registers ws) x)) (stored ∙ append-assoc (F ws) (C ws) _)
+        ∙ ap (take (registers ws)) (drop-at (F ws) _ (registers ws) (whole .freely .size))
+        ∙ take-at (C ws) _ (registers ws) (whole .split .size)
+
+    pub planned : PlanAs ws answer A₂ scratch S₂ (Planned top free two (top - two))
+    unfolding replyOf bufferAfter scratchAfter planReply
+    planned =
+        record {
+          reply = rw (outcome, offset-is ws e (t .period), e, f .period, t .period);
+          stored = rw outcome stored;
+          left = rw outcome zeros;
+          unbeaten = λ c₁ f₁ t₁ o₁ q.
+              let ec : c₁ ≡ top = cc in
+              let ef : f₁ ≡ free = cc in
+              let et : t₁ ≡ two = cc in
+              let eo : o₁ ≡ top - two = cc in
+              rw (ec ∙ e, ef ∙ f .period, et ∙ t .period, eo ∙ offset-is ws e (t .period), front, behind) whole;
+        }

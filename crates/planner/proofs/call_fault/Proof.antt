@@ -1,0 +1,14 @@
+-- One check of the run for each `or`.
+use Rattle.refusals.specs.Checks.{orCheck, faultAfter}
+use borrow.Author.Needs.{needs}
+use Rattle.planner.proofs.call_fault.Statement.{statement}
+use Rattle.planner.proofs.call_fault.Tie as tie
+
+returns : tie.Need-returns
+unfolding orCheck faultAfter
+returns c = rw (c .or2 .ensures, c .before .or .ensures)
+
+pub call-fault-spec : {M : Type 1} → statement M
+call-fault-spec =
+    tie.close
+    (tie.spec (λ c. search needs) (λ c κs. search needs) (λ c. search needs) (λ c. search needs) (λ c. search needs) (λ c κs. search needs) returns)

@@ -1,0 +1,192 @@
+-- The pairs of a list one by one: what the sweeps, the period and the split's timings keep from turn to turn.
+use mathlib.Core.Path.{_≡_, refl, ap, sym, _∙_, subst}
+use mathlib.Core.Bool.{Bool, true, false, _||_, true≢false}
+use mathlib.Core.List.{List, [], _∷_, _++_, append-nil}
+use Prim.Native.Nat.{ℕ, zero, suc, _+_, _-_, _*_, _≤_, _<_, max, min, zero-le}
+use native.Mathlib.Nat.{le-refl, sub-zero}
+use native.Mathlib.Omega.{arith}
+use lib.Dec.{ltb}
+use lib.ListN.{length, getD, take, drop, replicate, length-replicate, length-map, drop-of-length-le}
+use lib.Seq.{ext-getD, getD-take, length-take-le}
+use borrow.Author.Count.{below-more}
+use Rattle.buffers.specs.Run.{run}
+use Rattle.buffers.proofs.RunLaws.{run-length, run-at}
+use Rattle.timing.specs.declared.Pair.{Pair}
+use Rattle.timing.specs.Limits.{maxDelay}
+use Rattle.list_format.specs.Lists.{registers, pairCount, pairAt, pairsFrom, pairs, IsPair}
+use Rattle.list_format.proofs.ListLaws.{each-pair, pairs-within, pair-holds}
+use Rattle.free_laws.specs.Free.{common}
+use Rattle.free_laws.proofs.Sweep.{zeros-below}
+use Rattle.free_laws.proofs.FreeLaws.{common-limit}
+use Rattle.split_laws.specs.Split.{timing, timings}
+use Rattle.split_laws.proofs.ClosureLaws.{time-of}
+use Rattle.plan_laws.specs.Plan.{twoPeriod}
+use Rattle.plan_laws.specs.Reach.{reachOf, Closed, reachPeriod, lateAbove, ahead, behind, Raised, room, Told, Step}
+use Rattle.plan_laws.proofs.OffsetLaws.{below-common}
+use Rattle.plan_laws.proofs.ReachLaws.{PairOf, pairs-of, length-late, late-at}
+use Rattle.plan_laws.proofs.StepLaws.{step-none, step-then, step-with, pair-step}
+use Rattle.plan_laws.proofs.ReachTwo.{period-is, timings-are}
+use Rattle.checker.specs.Check.{Ready}
+use Rattle.reach.specs.Settling.{Raisable, Reaching, ClosedAt, ClosedAll, Settled, Reached}
+
+-- ---- one pair
+
+module _ {ws : List ℕ} {count top : ℕ} {W : List ℕ} (r : Reaching ws count top W) where
+  -- the same list with other reaches
+  pub reaching-then : {D : List ℕ → Type 0} {W′ : List ℕ} {o : Bool} → Step top (pairs ws) D W W′ o → Reaching ws count top W′
+  reaching-then h =
+      record {
+        ready = record { accepted = r .ready .accepted; counted = r .ready .counted; timed = h .size ∙ r .ready .timed };
+        topIs = r .topIs;
+        reaches = h .reaches;
+      }
+
+  module _ {k : ℕ} {p : Pair} (is : IsPair ws k p) (h : k < pairCount ws) where
+    pub pair-of : PairOf top (pairs ws) p
+    pair-of =
+        rw (is .same)
+        (pair-holds ws (PairOf top (pairs ws)) (pairs-of top (pairs ws) (below-common (pairs ws) top (omega (arith, r .topIs)))) k h)
+
+    pub pair-raisable : Raisable p top W
+    pair-raisable =
+        record {
+          inside = record { launch = rw (r .ready .timed) (is .launch); capture = rw (r .ready .timed) (is .capture) };
+          order = omega (arith, is .order, pair-of .under);
+          under = pair-of .under;
+          limit = omega (arith, r .topIs, common-limit maxDelay (omega arith) (pairs ws) (pairs-within ws (r .ready .accepted)));
+        }
+
+    -- both its ends raised
+    pub pair-stepped : {M W′ : List ℕ} {x y o : Bool} → Raised (p .capture) (ahead top p W) W M x → Raised (p .launch) (behind top p M) M W′ y → o ≡ (x || y)
+        → Step top (pairs ws) (ClosedAt ws top k) W W′ o
+    pair-stepped a b e =
+        step-with (λ d. subst (λ (q : Pair). Closed top W q) (is .same) d) (pair-step pair-of (pair-raisable .inside) (r .reaches) a b e)
+
+pub raisable-kept : {p : Pair} {top : ℕ} {W W′ : List ℕ} → Raisable p top W → length W′ ≡ length W → Raisable p top W′
+raisable-kept a e =
+    record { inside = record { launch = rw e (a .inside .launch); capture = rw e (a .inside .capture) }; order = a .order; under = a .under; limit = a .limit }
+
+-- ---- sweeps
+
+-- the first i pairs raise no reach further
+abbrev pub ClosedTo : List ℕ → ℕ → ℕ → List ℕ → Type 0
+ClosedTo ws top i W = (j : ℕ) → j < i → ClosedAt ws top j W
+
+-- i turns of a sweep
+pub record Sweeping (ws : List ℕ) (count top : ℕ) (W W′ : List ℕ) (moved : Bool) (i : ℕ) : Type 0 where
+  pub bound : i ≤ count
+  pub step : Step top (pairs ws) (ClosedTo ws top i) W W′ moved
+
+module _ {ws : List ℕ} {count top : ℕ} {W : List ℕ} (r : Reaching ws count top W) where
+  pub sweeping-start : Sweeping ws count top W W false 0
+  sweeping-start = record { bound = zero-le; step = step-none (r .reaches) (λ j l. absurd (omega arith)) }
+
+  module _ {W′ : List ℕ} {moved : Bool} {i : ℕ} (s : Sweeping ws count top W W′ moved i) where
+    pub sweeping-turn : {W″ : List ℕ} {o moved′ : Bool} → i < count → Step top (pairs ws) (ClosedAt ws top i) W′ W″ o → moved′ ≡ (moved || o)
+        → Sweeping ws count top W W″ moved′ (i + 1)
+    sweeping-turn l h e =
+        record { bound = omega arith; step = step-with (λ d. below-more (λ j. ClosedAt ws top j W) i (d .0) (d .1)) (step-then e (s .step) h) }
+
+    pub sweeping-end : count ≤ i → Step top (pairs ws) (ClosedAll ws top) W W′ moved
+    sweeping-end l = step-with (λ d k h. d k (omega (arith, r .ready .counted))) (s .step)
+
+  -- a sweep that raised nothing
+  pub swept : {W′ : List ℕ} {o : Bool} → Step top (pairs ws) (ClosedAll ws top) W W′ o → o ≡ false → Settled ws count top W′
+  swept {W′} {o} h e = record { reaching = reaching-then r h; closed = go o e (h .told) }
+    where
+      go : (o : Bool) → o ≡ false → Told o top (ClosedAll ws top) W W′ → ClosedAll ws top W′
+      go false e x = rw (x .0) (x .1)
+      go true e x = absurd (true≢false e)
+
+-- the mirrored step serves lists against the order, and says nothing more
+pub turned : {top : ℕ} {ps : List Pair} {D E : List ℕ → Type 0} {W M W′ : List ℕ} {x y o : Bool} → Step top ps D W M x → Step top ps E M W′ y → o ≡ (x || y)
+    → Step top ps D W W′ o
+turned h k e = step-with (λ d. d .0) (step-then e h k)
+
+-- a sweep that raised something leaves less to rise
+pub sweep-less : {top : ℕ} {ps : List Pair} {D : List ℕ → Type 0} {W W′ : List ℕ} {o : Bool} → Step top ps D W W′ o → o ≡ true → room top W′ < room top W
+sweep-less {top} {ps} {D} {W} {W′} {o} h e = go o e (h .told)
+  where
+    go : (o : Bool) → o ≡ true → Told o top D W W′ → room top W′ < room top W
+    go true e x = x
+    go false e x = absurd (true≢false (sym e))
+
+-- ---- the period
+
+-- the longest that the first k pairs ask for, with those from place k on, gives the period
+pub record Asked (ws W : List ℕ) (most k : ℕ) : Type 0 where
+  pub place : k ≤ pairCount ws
+  pub pos : 1 ≤ most
+  pub same : max most (reachPeriod 1 (pairsFrom ws k (pairCount ws - k)) W) ≡ reachPeriod 1 (pairs ws) W
+
+period-pos : (ps : List Pair) (W : List ℕ) → 1 ≤ reachPeriod 1 ps W
+unfolding reachPeriod
+period-pos [] W = le-refl 1
+period-pos (p ∷ ps) W = omega (arith, period-pos ps W)
+
+pub asked-start : {ws W : List ℕ} → Asked ws W 1 0
+asked-start {ws} {W} = record { place = zero-le; pos = le-refl 1; same = rw sub-zero (omega (arith, period-pos (pairs ws) W)) }
+
+module _ {ws W : List ℕ} {most k : ℕ} (a : Asked ws W most k) where
+  pub asked-turn : {one next : ℕ} {p : Pair} → k < pairCount ws → IsPair ws k p → one ≡ min (reachOf W (p .launch)) (p .greatest) → next ≡ max most one
+      → Asked ws W next (k + 1)
+  unfolding pairsFrom reachPeriod
+  asked-turn {one} {next} {p} h is e f =
+      let left : pairCount ws - k ≡ suc (pairCount ws - (k + 1)) = omega arith in
+      let split = rw left at (a .same) in
+      let here : one ≡ min (reachOf W (pairAt ws k .launch)) (pairAt ws k .greatest) = rw (is .same) at e in
+      record { place = omega arith; pos = omega (arith, a .pos); same = omega (arith, split, here) }
+
+  pub asked-end : pairCount ws ≤ k → most ≡ reachPeriod 1 (pairs ws) W
+  unfolding pairsFrom reachPeriod
+  asked-end h =
+      let none : pairCount ws - k ≡ 0 = omega arith in
+      let all = rw none at (a .same) in
+      omega (arith, all, a .pos)
+
+-- ---- from reaches 0 to the period and its split
+
+module _ {ws : List ℕ} {count top : ℕ} {W : List ℕ} (ready : Ready ws count W) (e : top ≡ common (pairs ws)) where
+  pub reaching-start : {W′ : List ℕ} → W′ ≡ replicate (length W) 0 ++ drop (length W) W → Reaching ws count top W′
+  reaching-start {W′} cleared =
+      record {
+        ready = record { accepted = ready .accepted; counted = ready .counted; timed = ap length zeros ∙ length-replicate (length W) 0 ∙ ready .timed };
+        topIs = e;
+        reaches = record { under = λ r. omega (arith, at r); late = λ r t h. absurd (omega (arith, at r)) };
+      }
+    where
+      zeros : W′ ≡ replicate (length W) 0
+      zeros = cleared ∙ rw (drop-of-length-le W {i = length W} (le-refl _), append-nil)
+
+      at : (r : ℕ) → reachOf W′ r ≤ 0
+      at r = rw zeros (zeros-below (length W) (λ q. 0) r)
+
+pub reached : {ws : List ℕ} {count top : ℕ} {W : List ℕ} {two : ℕ} → Settled ws count top W → two ≡ reachPeriod 1 (pairs ws) W → Reached ws W two
+reached {ws} {count} {top} {W} {two} s e =
+    let r = s .reaching in
+    let reaches = rw (r .topIs) at (r .reaches) in
+    let closed = each-pair ws (Closed (common (pairs ws)) W) (λ k h. rw (r .topIs) at (s .closed k h)) in
+    let period : two ≡ twoPeriod (registers ws) (pairs ws) = e ∙ period-is (registers ws) (pairs ws) W (r .ready .timed) reaches closed in
+    record { period = period; split = rw period (timings-are (registers ws) (pairs ws) W (r .ready .timed) reaches closed); size = r .ready .timed }
+
+-- ---- the split's timings, one by one
+
+-- the timing of register k
+abbrev pub times : ℕ → ℕ → List ℕ → ℕ → List ℕ
+times s two W k = timing s (ltb two (getD W k 0)) ∷ []
+
+pub split-run : (s two n : ℕ) (W : List ℕ) → n ≤ length W → run (times s two W) n ≡ timings s (lateAbove two (take n W))
+split-run s two n W h = ext-getD 0 _ _ (size ∙ sym sizes) each
+  where
+    size : length (run (times s two W) n) ≡ n
+    size = run-length (times s two W) 1 (λ k. refl) n ∙ omega arith
+
+    sizes : length (timings s (lateAbove two (take n W))) ≡ n
+    sizes = length-map (lateAbove two (take n W)) (timing s) ∙ length-late two (take n W) ∙ length-take-le n W h
+
+    each : (i : ℕ) → i < length (run (times s two W) n) → getD (run (times s two W) n) i 0 ≡ getD (timings s (lateAbove two (take n W))) i 0
+    each i l =
+        let inside : i < n = omega (arith, size) in
+        let e : 1 * i + 0 ≡ i = omega arith in
+        (rw e at (run-at (times s two W) 1 (λ k. refl) n i 0 inside (omega arith)))
+        ∙ sym (time-of s (lateAbove two (take n W)) i ∙ ap (timing s) (late-at two (take n W) i ∙ ap (ltb two) (getD-take n W i 0 inside)))

@@ -1,0 +1,13 @@
+-- `raise_launch` raises to `behind`.
+use borrow.Author.Needs.{needs}
+use Rattle.reach.proofs.raise_launch.Statement.{statement}
+use Rattle.reach.proofs.raise_launch.Tie as tie
+
+returns : tie.Need-returns
+returns c = rw (c .before .before .before .before .before .smaller .ensures) at (c .before .before .raise .ensures)
+
+pub raise-launch-spec : {M : Type 1} → statement M
+raise-launch-spec =
+    tie.close
+    (tie.spec (λ c. search needs) (λ c. search needs) (λ c. search needs) (λ c. search needs)
+    (λ c κs. search needs) (λ c. search needs) (λ c κs. search needs) (λ c. search needs) returns)

@@ -1,0 +1,17 @@
+-- `two_period`: from reaches 0 until none rises any more.
+use Rattle.reach.proofs.SweepLaws.{reaching-start, reached}
+use borrow.Author.Needs.{needs}
+use Rattle.reach.proofs.two_period.Statement.{statement}
+use Rattle.reach.proofs.two_period.Tie as tie
+
+settle-requires : tie.Need-settle-requires
+settle-requires c κs =
+    let w = c .before .before .before in
+    let b = w .before .before .before .before in
+    reaching-start (b .pre .0) (b .pre .1) (w .clear .ensures)
+
+returns : tie.Need-returns
+returns c = reached (c .before .before .before .before .settle .ensures) (c .period .ensures)
+
+pub two-period-spec : {M : Type 1} → statement M
+two-period-spec = tie.close (tie.spec (λ c κs. search needs) settle-requires (λ c κs. search needs) (λ c. search needs) returns)
