@@ -111,7 +111,7 @@ module _ (top : ℕ) (ps : List Pair) where
 -- ---- the period that reaches give
 
 module _ (start : ℕ) (W : List ℕ) where
-  period-from : (ps : List Pair) → start ≤ reachPeriod start ps W
+  pub period-from : (ps : List Pair) → start ≤ reachPeriod start ps W
   unfolding reachPeriod
   period-from [] = omega arith
   period-from (p ∷ ps) = omega (arith, period-from ps)
@@ -155,7 +155,8 @@ module _ (n start top : ℕ) (ps : List Pair) (W : List ℕ) (size : length W �
   abbrev two : ℕ
   two = reachPeriod start ps W
 
-  late-works : (t : ℕ) → two ≤ t → t ≤ top → works t (top - t) ps (lateAbove t W) ≡ true
+  -- the split that is late where the reach is above the period works, from that period up to top
+  pub late-works : (t : ℕ) → two ≤ t → t ≤ top → works t (top - t) ps (lateAbove t W) ≡ true
   late-works t a b =
       each-works t (top - t) (lateAbove t W) ps
       (each-zip keep ps (each-zip (λ p of x. (of, x)) ps (pairs-of top ps under) closed) (period-over start W ps t a))
@@ -163,21 +164,22 @@ module _ (n start top : ℕ) (ps : List Pair) (W : List ℕ) (size : length W �
       keep : (p : Pair) → PairOf top ps p × Closed top W p → min (reachOf W (p .launch)) (p .greatest) ≤ t → keeps t (top - t) p (lateAbove t W) ≡ true
       keep p x o = rw (late-at t W (p .launch), late-at t W (p .capture)) (closed-meets top ps W s p (x .0) t b (x .1) o)
 
-  late-least : (t : ℕ) (c : List Bool) → works t (top - t) ps c ≡ true → Below (lateAbove t W) c
+  -- it is late only where every split that works is
+  pub late-least : (t : ℕ) (c : List Bool) → works t (top - t) ps c ≡ true → Below (lateAbove t W) c
   late-least t c w r e = s .late r t (ltb-true t (reachOf W r) (sym (late-at t W r) ∙ e)) c w
 
-  -- from the period up to top the split that is late where the reach is above the period works and is the first
+  -- so it is the first
   pub late-first : (t : ℕ) → two ≤ t → t ≤ top → firstSplit n t (top - t) ps ≡ found (lateAbove t W)
   unfolding firstSplit
   late-first t a b =
       subst (λ (k : ℕ). firstOf (works t (top - t) ps) (splits k) ≡ found (lateAbove t W)) (length-late t W ∙ size)
       (least-first (lateAbove t W) (works t (top - t) ps) (late-works t a b) (λ c l w. late-least t c w))
 
-  -- below it none works
+  -- below the period none works
   pub none-shorter : (t : ℕ) → start ≤ t → t < two → firstSplit n t (top - t) ps ≡ nothing
   none-shorter t a b = first-none n t (top - t) ps (period-none start W top ps ps s (pairs-of top ps under) t a b)
 
-  -- so it is the least
+  -- so the period is the least
   pub two-is-least : IsLeast (λ t. splitWorks n t (top - t) ps) start top two
   unfolding splitWorks
   two-is-least =

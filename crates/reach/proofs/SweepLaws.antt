@@ -2,7 +2,7 @@
 use mathlib.Core.Path.{_≡_, refl, ap, sym, _∙_, subst}
 use mathlib.Core.Bool.{Bool, true, false, _||_, true≢false}
 use mathlib.Core.List.{List, [], _∷_, _++_, append-nil}
-use Prim.Native.Nat.{ℕ, zero, suc, _+_, _-_, _*_, _≤_, _<_, max, min, zero-le}
+use Prim.Native.Nat.{ℕ, suc, _+_, _-_, _*_, _≤_, _<_, max, min, zero-le}
 use native.Mathlib.Nat.{le-refl, sub-zero}
 use native.Mathlib.Omega.{arith}
 use lib.Dec.{ltb}
@@ -23,7 +23,7 @@ use Rattle.split_laws.proofs.ClosureLaws.{time-of}
 use Rattle.plan_laws.specs.Plan.{twoPeriod}
 use Rattle.plan_laws.specs.Reach.{reachOf, Closed, reachPeriod, lateAbove, ahead, behind, Raised, room, Told, Step}
 use Rattle.plan_laws.proofs.OffsetLaws.{below-common}
-use Rattle.plan_laws.proofs.ReachLaws.{PairOf, pairs-of, length-late, late-at}
+use Rattle.plan_laws.proofs.ReachLaws.{PairOf, pairs-of, period-from, length-late, late-at}
 use Rattle.plan_laws.proofs.StepLaws.{step-none, step-then, step-with, pair-step}
 use Rattle.plan_laws.proofs.ReachTwo.{period-is, timings-are}
 use Rattle.checker.specs.Check.{Ready}
@@ -119,13 +119,8 @@ pub record Asked (ws W : List ℕ) (most k : ℕ) : Type 0 where
   pub pos : 1 ≤ most
   pub same : max most (reachPeriod 1 (pairsFrom ws k (pairCount ws - k)) W) ≡ reachPeriod 1 (pairs ws) W
 
-period-pos : (ps : List Pair) (W : List ℕ) → 1 ≤ reachPeriod 1 ps W
-unfolding reachPeriod
-period-pos [] W = le-refl 1
-period-pos (p ∷ ps) W = omega (arith, period-pos ps W)
-
 pub asked-start : {ws W : List ℕ} → Asked ws W 1 0
-asked-start {ws} {W} = record { place = zero-le; pos = le-refl 1; same = rw sub-zero (omega (arith, period-pos (pairs ws) W)) }
+asked-start {ws} {W} = record { place = zero-le; pos = le-refl 1; same = rw sub-zero (omega (arith, period-from 1 W (pairs ws))) }
 
 module _ {ws W : List ℕ} {most k : ℕ} (a : Asked ws W most k) where
   pub asked-turn : {one next : ℕ} {p : Pair} → k < pairCount ws → IsPair ws k p → one ≡ min (reachOf W (p .launch)) (p .greatest) → next ≡ max most one
