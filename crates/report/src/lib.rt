@@ -1,0 +1,135 @@
+// From the bytes of a delay list to the text of its plan.
+// The contracts cite `specs/Report.antt`. With 20 digits for each number, line one has at most 107 bytes, the line of a register 63 and a refusal 53.
+ghost use mathlib.Core.Path.{_≡_};
+ghost use mathlib.Core.List.{[], _∷_};
+ghost use Prim.Native.Nat.{_+_, _*_, _≤_};
+ghost use lib.ListN.{length};
+ghost use Rattle.pieces.specs.Pieces.{Put};
+ghost use Rattle.report.specs.Report.{periodsLine, registerLine, registerLines, planLines, refusalLine, textOf, textPlaces, maxBytes, listOf, byteChecks, planOf, ReportedAs};
+ghost use Rattle.refusals.specs.Checks.{firstFault};
+ghost use Rattle.list_format.specs.Lists.{registers};
+use pieces::put_named;
+use pieces::put_number;
+use planner::Planning;
+use refusals::Fault;
+use timing::MAX_PAIRS;
+use timing::MAX_REGISTERS;
+
+// The words and the bytes of the longest list.
+const MAX_WORDS: usize = 3 * MAX_PAIRS + 2;
+
+pub const MAX_BYTES: usize = 4 * MAX_WORDS;
+
+// The places that the plan of the largest list takes in the answer buffer, and of scratch.
+const ANSWER_PLACES: usize = 2 * MAX_REGISTERS as usize;
+
+const SCRATCH_PLACES: usize = 6 * MAX_REGISTERS as usize + 4 * MAX_PAIRS;
+
+// Places enough for any text.
+pub const TEXT_PLACES: usize = 32_768;
+
+fn put_refusal(text: &mut [u8], number: u32, place: usize) -> usize
+    requires { ⌜ 53 ≤ length (now text) ⌝ }
+    ensures { λ r. ⌜ Put 53 (refusalLine number place) (now (text .entry)) 0 (now (text .exit)) r ⌝ }
+{
+    let at = put_named(text, 0, b"refused ", number as u64, b' ');
+    put_named(text, at, b"at ", place as u64, b'\n')
+}
+
+// Line one: the three periods and the offset.
+fn put_periods(text: &mut [u8], common: u32, free: u32, two: u32, offset: u32) -> usize
+    requires { ⌜ 107 ≤ length (now text) ⌝ }
+    ensures { λ r. ⌜ Put 107 (periodsLine (common ∷ free ∷ two ∷ offset ∷ [])) (now (text .entry)) 0 (now (text .exit)) r ⌝ }
+{
+    let a = put_named(text, 0, b"common ", common as u64, b' ');
+    let b = put_named(text, a, b"free ", free as u64, b' ');
+    let c = put_named(text, b, b"two ", two as u64, b' ');
+    put_named(text, c, b"offset ", offset as u64, b'\n')
+}
+
+// A register, its free timing, its two-timing value.
+fn put_register(text: &mut [u8], at: usize, r: usize, free: u32, two: u32) -> usize
+    requires { ⌜ at + 63 ≤ length (now text) ⌝ }
+    ensures { λ z. ⌜ Put 63 (registerLine r free two) (now (text .entry)) at (now (text .exit)) z ⌝ }
+{
+    let a = put_number(text, at, r as u64, b' ');
+    let b = put_number(text, a, free as u64, b' ');
+    put_number(text, b, two as u64, b'\n')
+}
+
+// A line for each of n registers, whose timings stand in the first 2n places of `answer`.
+fn put_registers(text: &mut [u8], at: usize, answer: &[u32], n: usize) -> usize
+    requires { ⌜ (2 * n ≤ length (now answer)) × (at + 63 * n ≤ length (now text)) ⌝ }
+    ensures { λ z. ⌜ Put (63 * n) (registerLines n (now (answer .entry))) (now (text .entry)) at (now (text .exit)) z ⌝ }
+{
+    let mut last = at;
+    let mut r = 0;
+    while r < n {
+        last = put_register(text, last, r, answer[r], answer[n + r]);
+        r += 1;
+    }
+    last
+}
+
+// Line one, and a line for each of n registers.
+fn put_planned(
+    text: &mut [u8],
+    common: u32,
+    free: u32,
+    two: u32,
+    offset: u32,
+    answer: &[u32],
+    n: usize,
+) -> usize
+    requires { ⌜ (2 * n ≤ length (now answer)) × (107 + 63 * n ≤ length (now text)) ⌝ }
+    ensures { λ r. ⌜ Put (107 + 63 * n) (planLines n (common ∷ free ∷ two ∷ offset ∷ []) (now (answer .entry))) (now (text .entry)) 0 (now (text .exit)) r ⌝ }
+{
+    let at = put_periods(text, common, free, two, offset);
+    put_registers(text, at, answer, n)
+}
+
+// The text for a run of words.
+fn put_text(text: &mut [u8], words: &[u32]) -> usize
+    requires { ⌜ textPlaces ≤ length (now text) ⌝ }
+    ensures { λ r. ⌜ Put textPlaces (textOf (registers (now (words .entry))) (planOf (now (words .entry)))) (now (text .entry)) 0 (now (text .exit)) r ⌝ }
+{
+    let mut answer = [0u32; ANSWER_PLACES];
+    let mut scratch = [0u32; SCRATCH_PLACES];
+    match planner::plan(words, &mut answer, &mut scratch) {
+        Planning::Refused(number, place) => put_refusal(text, number, place),
+        Planning::Planned(common, free, two, offset) => {
+            let n = words::head_registers(words[0]) as usize;
+            put_planned(text, common, free, two, offset, &answer, n)
+        }
+    }
+}
+
+// The refusal that the count of bytes alone calls for.
+fn byte_fault(count: usize) -> Fault
+    ensures { λ r. ⌜ r ≡ firstFault (byteChecks count) ⌝ }
+{
+    Fault::None
+        .or(count > MAX_BYTES, 11, 0)
+        .or(count % 4 != 0, 11, 0)
+}
+
+// The text for the bytes of a list that is not too long.
+fn put_list(text: &mut [u8], bytes: &[u8]) -> usize
+    requires { ⌜ (textPlaces ≤ length (now text)) × (length (now bytes) ≤ maxBytes) ⌝ }
+    ensures { λ r. ⌜ Put textPlaces (textOf (registers (listOf (now (bytes .entry)))) (planOf (listOf (now (bytes .entry))))) (now (text .entry)) 0 (now (text .exit)) r ⌝ }
+{
+    let mut words = [0u32; MAX_WORDS];
+    let count = bytes.len() / 4;
+    words::to_words(bytes, count, &mut words);
+    put_text(text, &words[..count])
+}
+
+// The text for the bytes of a list, in the first places of `text`; later places keep their contents. The count of its bytes is returned.
+pub fn report(bytes: &[u8], text: &mut [u8; TEXT_PLACES]) -> usize
+    ensures { λ r. ⌜ ReportedAs (now (bytes .entry)) (now (text .entry)) (now (text .exit)) r ⌝ }
+{
+    match byte_fault(bytes.len()) {
+        Fault::At(number, place) => put_refusal(text, number, place),
+        Fault::None => put_list(text, bytes),
+    }
+}
