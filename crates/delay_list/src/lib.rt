@@ -1,11 +1,13 @@
-// Whether a run of words is a delay list, and the pairs of an accepted one.
+// Whether a run of words is a delay list, the pairs of an accepted one, and the reader that walks them.
 // The contracts cite `list_format`: where a pair stands, what it is, and every check in its order.
 ghost use mathlib.Core.Path.{_≡_};
 ghost use Prim.Native.Nat.{_+_, _*_, _^_, _<_, _≤_};
 ghost use lib.ListN.{length};
 ghost use Rattle.refusals.specs.Checks.{firstFault, faultAfter};
-ghost use Rattle.list_format.specs.Lists.{word, pairPlace, placeOf, pairOf, headChecks, kindChecks, valueChecks, pairChecks, endChecks, bodyChecks, PairIn, IsPair};
+ghost use Rattle.list_format.specs.Lists.{word, pairCount, pairPlace, placeOf, pairOf, headChecks, kindChecks, valueChecks, pairChecks, endChecks, bodyChecks, IsAccepted, PairIn, IsPair};
 ghost use Rattle.list_format.specs.Lists.{verdict as verdictOf};
+ghost use Rattle.list_format.specs.Walk.{nextAt, placeAfter};
+use list_format::Next;
 use list_format::Verdict;
 use refusals::Fault;
 use timing::Pair;
@@ -145,13 +147,90 @@ pub fn verdict(words: &[u32]) -> Verdict
     }
 }
 
-// Pair k of an accepted list.
-pub fn pair_at(words: &[u32], k: usize) -> Pair
+// Pair k, from its three words.
+fn pair_from(words: &[u32], k: usize) -> Pair
     requires { ⌜ PairIn (now words) k ⌝ }
     ensures { λ r. ⌜ IsPair (now (words .entry)) k r ⌝ }
 {
     let at = pair_place(k);
     pair_of(words[at], words[at + 1], words[at + 2])
+}
+
+// m, the count of pairs.
+fn pair_count(words: &[u32]) -> usize
+    ensures { λ r. ⌜ r ≡ pairCount (now (words .entry)) ⌝ }
+{
+    words::head_pairs(first_word(words)) as usize
+}
+
+// Pair k, or the end.
+fn next_from(words: &[u32], k: usize) -> Next
+    requires { ⌜ IsAccepted (now words) ⌝ }
+    ensures { λ r. ⌜ r ≡ nextAt (now (words .entry)) k ⌝ }
+{
+    if k < pair_count(words) {
+        return Next::One(pair_from(words, k));
+    }
+    Next::End
+}
+
+// The place after k; the end stays the end.
+fn place_after(words: &[u32], k: usize) -> usize
+    ensures { λ r. ⌜ r ≡ placeAfter (now (words .entry)) k ⌝ }
+{
+    if pair_count(words) <= k {
+        return k;
+    }
+    k + 1
+}
+
+// The reader: the caller's words and the pair that it has come to.
+pub struct Reader<'a> {
+    pub words: &'a [u32],
+    pub at: usize,
+}
+
+impl<'a> Reader<'a> {
+    // A reader that has come to pair k.
+    pub fn new(words: &'a [u32], k: usize) -> Reader<'a>
+        ensures { λ r. ⌜ (r .words ≡ words .entry) × (r .at ≡ k) ⌝ }
+    {
+        Reader { words, at: k }
+    }
+
+    // The pair that it has come to, where there is one.
+    pub fn pair(self) -> Pair
+        requires { ⌜ PairIn (now (self .words)) (self .at) ⌝ }
+        ensures { λ r. ⌜ IsPair (now (self .entry .words)) (self .entry .at) r ⌝ }
+    {
+        pair_from(self.words, self.at)
+    }
+
+    // The pair that it has come to, or the end.
+    pub fn next(self) -> Next
+        requires { ⌜ IsAccepted (now (self .words)) ⌝ }
+        ensures { λ r. ⌜ r ≡ nextAt (now (self .entry .words)) (self .entry .at) ⌝ }
+    {
+        next_from(self.words, self.at)
+    }
+
+    // The reader one pair further on.
+    pub fn advanced(self) -> Reader<'a>
+        ensures { λ r. ⌜ (r .words ≡ self .entry .words) × (r .at ≡ placeAfter (now (self .entry .words)) (self .entry .at)) ⌝ }
+    {
+        Reader {
+            words: self.words,
+            at: place_after(self.words, self.at),
+        }
+    }
+}
+
+// Pair k of an accepted list, from a reader that has come to it.
+pub fn pair_at(words: &[u32], k: usize) -> Pair
+    requires { ⌜ PairIn (now words) k ⌝ }
+    ensures { λ r. ⌜ IsPair (now (words .entry)) k r ⌝ }
+{
+    Reader::new(words, k).pair()
 }
 
 // The i-th pair of a walk over m pairs: up the list, or from its end if down.

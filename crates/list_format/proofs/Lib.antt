@@ -1,4 +1,5 @@
 pub mod ListLaws
+pub mod WalkLaws
 pub mod ReadBack
 pub mod WriteBack
 pub mod ReadLaws

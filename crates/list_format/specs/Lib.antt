@@ -1,4 +1,5 @@
 pub mod Lists
+pub mod Walk
 pub mod Read
 pub mod Write
 pub mod RoundTrip

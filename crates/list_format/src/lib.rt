@@ -1,5 +1,6 @@
 // The delay list: what a run of words says, and what reading and writing one come to.
 // Definitions stand in `specs/`, laws in `proofs/`; here are only the answers' types.
+use timing::Pair;
 
 // What is said of a run of words: the counts of registers and pairs, or the first refusal with its place.
 pub enum Verdict {
@@ -17,4 +18,10 @@ pub enum Reading {
 pub enum Writing {
     Written(usize),
     Refused(u32, usize),
+}
+
+// What a walk of the pairs has come to.
+pub enum Next {
+    One(Pair),
+    End,
 }
