@@ -1,0 +1,203 @@
+//! The clock planner for Rust: safe calls of the proved functions, for slices of any length.
+//!
+//! A delay list is a run of 32-bit words. Each call gives a result, or a [`Refusal`] that changed no buffer.
+//! `answer` and `scratch` are lent by the caller, and what they held before does not matter.
+
+const REPLY_PLACES: usize = 5;
+
+/// The largest counts of a list.
+pub const MAX_REGISTERS: usize = 512;
+pub const MAX_PAIRS: usize = 2_048;
+
+/// The words of the longest list.
+pub const MAX_WORDS: usize = 3 * MAX_PAIRS + 2;
+
+/// The bytes that [`report`] asks for.
+pub const TEXT_PLACES: usize = 32_768;
+
+/// The places of scratch for a list of so many registers and pairs.
+pub const fn scratch_places(registers: usize, pairs: usize) -> usize {
+    6 * registers + 4 * pairs
+}
+
+/// Why a call was refused, and the place, counted from 0, that is at fault.
+#[derive(Clone, Copy, Debug, PartialEq, Eq)]
+pub struct Refusal {
+    pub number: u32,
+    pub place: usize,
+}
+
+/// The counts of a list.
+#[derive(Clone, Copy, Debug, PartialEq, Eq)]
+pub struct Counts {
+    pub registers: u32,
+    pub pairs: u32,
+}
+
+#[derive(Clone, Copy, Debug, PartialEq, Eq)]
+pub enum Rule {
+    Setup,
+    Hold,
+}
+
+/// What checking a schedule finds: each pair meets both rules, or the first pair that does not.
+#[derive(Clone, Copy, Debug, PartialEq, Eq)]
+pub enum Checked {
+    Admissible,
+    Broken { pair: usize, rule: Rule },
+}
+
+#[derive(Clone, Copy, Debug, PartialEq, Eq)]
+pub struct Periods {
+    pub common: u32,
+    pub free: u32,
+}
+
+/// Whether some split works.
+#[derive(Clone, Copy, Debug, PartialEq, Eq)]
+pub enum Split {
+    Found,
+    None,
+}
+
+#[derive(Clone, Copy, Debug, PartialEq, Eq)]
+pub struct Plan {
+    pub common: u32,
+    pub free: u32,
+    pub two: u32,
+    pub offset: u32,
+}
+
+type Reply = [u64; REPLY_PLACES];
+
+extern "C" {
+    fn darnerflax_read(words: *const u32, words_len: usize, answer: *mut u32, answer_len: usize, reply: *mut Reply) -> u32;
+    fn darnerflax_write(
+        n: u32,
+        numbers: *const u32,
+        numbers_len: usize,
+        answer: *mut u32,
+        answer_len: usize,
+        reply: *mut Reply,
+    ) -> u32;
+    fn darnerflax_check(
+        words: *const u32,
+        words_len: usize,
+        period: u32,
+        timings: *const u32,
+        timings_len: usize,
+        reply: *mut Reply,
+    ) -> u32;
+    fn darnerflax_free(words: *const u32, words_len: usize, answer: *mut u32, answer_len: usize, reply: *mut Reply) -> u32;
+    fn darnerflax_split(
+        words: *const u32,
+        words_len: usize,
+        period: u32,
+        offset: u32,
+        answer: *mut u32,
+        answer_len: usize,
+        scratch: *mut u32,
+        scratch_len: usize,
+        reply: *mut Reply,
+    ) -> u32;
+    fn darnerflax_plan(
+        words: *const u32,
+        words_len: usize,
+        answer: *mut u32,
+        answer_len: usize,
+        scratch: *mut u32,
+        scratch_len: usize,
+        reply: *mut Reply,
+    ) -> u32;
+    fn darnerflax_report(bytes: *const u8, bytes_len: usize, text: *mut [u8; TEXT_PLACES]) -> usize;
+}
+
+/// The count of values and the values of a result, or the refusal. Each value is proved to fit what a caller makes of it.
+fn told(call: impl FnOnce(*mut Reply) -> u32) -> Result<Reply, Refusal> {
+    let mut reply = [0; REPLY_PLACES];
+    match call(&mut reply) {
+        0 => Ok(reply),
+        number => Err(Refusal { number, place: reply[1] as usize }),
+    }
+}
+
+/// Reads a list: launch, capture, least and greatest of each pair fill the first 4m places of `answer`.
+pub fn read(words: &[u32], answer: &mut [u32]) -> Result<Counts, Refusal> {
+    // SAFETY: pointer and length of a slice each; the function has no precondition.
+    let [_, registers, pairs, ..] =
+        told(|reply| unsafe { darnerflax_read(words.as_ptr(), words.len(), answer.as_mut_ptr(), answer.len(), reply) })?;
+    Ok(Counts { registers: registers as u32, pairs: pairs as u32 })
+}
+
+/// Writes the list of n registers from four numbers for each pair; its words fill the first places of `answer`. The count
+/// of words is returned.
+pub fn write(n: u32, numbers: &[u32], answer: &mut [u32]) -> Result<usize, Refusal> {
+    // SAFETY: as for `read`.
+    let [_, count, ..] =
+        told(|reply| unsafe { darnerflax_write(n, numbers.as_ptr(), numbers.len(), answer.as_mut_ptr(), answer.len(), reply) })?;
+    Ok(count as usize)
+}
+
+/// Checks a schedule, a timing for each register, at a period.
+pub fn check(words: &[u32], period: u32, timings: &[u32]) -> Result<Checked, Refusal> {
+    // SAFETY: as for `read`.
+    let [count, pair, rule, ..] =
+        told(|reply| unsafe { darnerflax_check(words.as_ptr(), words.len(), period, timings.as_ptr(), timings.len(), reply) })?;
+    if count == 0 {
+        return Ok(Checked::Admissible);
+    }
+    let rule = if rule == 0 { Rule::Setup } else { Rule::Hold };
+    Ok(Checked::Broken { pair: pair as usize, rule })
+}
+
+/// The common and the free period; the least free schedule fills the first n places of `answer`.
+pub fn free(words: &[u32], answer: &mut [u32]) -> Result<Periods, Refusal> {
+    // SAFETY: as for `read`.
+    let [_, common, free, ..] =
+        told(|reply| unsafe { darnerflax_free(words.as_ptr(), words.len(), answer.as_mut_ptr(), answer.len(), reply) })?;
+    Ok(Periods { common: common as u32, free: free as u32 })
+}
+
+/// The first split at a period and an offset: its timings fill the first n places of `answer`. The first 6n + 4m places of
+/// `scratch` are left zero.
+pub fn split(words: &[u32], period: u32, offset: u32, answer: &mut [u32], scratch: &mut [u32]) -> Result<Split, Refusal> {
+    // SAFETY: as for `read`.
+    let [_, found, ..] = told(|reply| unsafe {
+        darnerflax_split(
+            words.as_ptr(),
+            words.len(),
+            period,
+            offset,
+            answer.as_mut_ptr(),
+            answer.len(),
+            scratch.as_mut_ptr(),
+            scratch.len(),
+            reply,
+        )
+    })?;
+    Ok(if found == 1 { Split::Found } else { Split::None })
+}
+
+/// The full plan: the free timings fill the first n places of `answer`, the split's timings the next n. The first 6n + 4m
+/// places of `scratch` are left zero.
+pub fn plan(words: &[u32], answer: &mut [u32], scratch: &mut [u32]) -> Result<Plan, Refusal> {
+    // SAFETY: as for `read`.
+    let [_, common, free, two, offset] = told(|reply| unsafe {
+        darnerflax_plan(
+            words.as_ptr(),
+            words.len(),
+            answer.as_mut_ptr(),
+            answer.len(),
+            scratch.as_mut_ptr(),
+            scratch.len(),
+            reply,
+        )
+    })?;
+    Ok(Plan { common: common as u32, free: free as u32, two: two as u32, offset: offset as u32 })
+}
+
+/// The text of the plan of a list's bytes, or of its refusal, in the first places of `text`. The count of its bytes is returned.
+pub fn report(bytes: &[u8], text: &mut [u8; TEXT_PLACES]) -> usize {
+    // SAFETY: as for `read`; `text` is a whole array.
+    unsafe { darnerflax_report(bytes.as_ptr(), bytes.len(), text) }
+}

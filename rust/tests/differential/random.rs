@@ -1,0 +1,140 @@
+//! Random numbers with a fixed seed, random lists of several shapes, and damage.
+use crate::reference::{encode, sealed, Net, Pair};
+
+pub struct Random(u64);
+
+impl Random {
+    pub fn new(seed: u64) -> Random {
+        Random(seed)
+    }
+
+    pub fn next(&mut self) -> u64 {
+        self.0 = self.0.wrapping_add(0x9e37_79b9_7f4a_7c15);
+        let mut z = self.0;
+        z = (z ^ (z >> 30)).wrapping_mul(0xbf58_476d_1ce4_e5b9);
+        z = (z ^ (z >> 27)).wrapping_mul(0x94d0_49bb_1331_11eb);
+        z ^ (z >> 31)
+    }
+
+    pub fn word(&mut self) -> u32 {
+        self.next() as u32
+    }
+
+    pub fn below(&mut self, end: usize) -> usize {
+        (self.next() % end as u64) as usize
+    }
+
+    pub fn upto(&mut self, last: u32) -> u32 {
+        (self.next() % (last as u64 + 1)) as u32
+    }
+
+    pub fn one_in(&mut self, k: usize) -> bool {
+        self.below(k) == 0
+    }
+
+    pub fn pick<T: Copy>(&mut self, xs: &[T]) -> T {
+        xs[self.below(xs.len())]
+    }
+
+    /// A length near `needed`: exact, one short, longer, or none at all.
+    pub fn room(&mut self, needed: usize) -> usize {
+        match self.below(8) {
+            0 => needed.saturating_sub(1),
+            1 => needed + 1 + self.below(9),
+            2 => self.below(needed + 1),
+            3 => 0,
+            _ => needed,
+        }
+    }
+}
+
+/// At most so many registers and pairs, with delays up to `delay`.
+#[derive(Clone, Copy)]
+pub struct Size {
+    pub registers: usize,
+    pub pairs: usize,
+    pub delay: u32,
+}
+
+/// A net of a random shape: any two registers, a chain, a chain listed from its end, a ring, or two rows with rungs.
+pub fn net(random: &mut Random, size: Size) -> Net {
+    let n = 1 + random.below(size.registers);
+    let m = random.below(size.pairs + 1);
+    exact_net(random, n, m, size.delay)
+}
+
+pub fn exact_net(random: &mut Random, n: usize, m: usize, delay: u32) -> Net {
+    let shape = random.below(5);
+    let tight = random.below(4) as u32;
+    let pairs = (0..m)
+        .map(|k| {
+            let (launch, capture) = match shape {
+                0 => (random.below(n), random.below(n)),
+                1 => (k % n, (k + 1).min(n - 1) % n),
+                2 => ((m - k) % n, (m - k + 1) % n),
+                3 => (k % n, (k + 1) % n),
+                _ => (k % n, (k + n / 2 + random.below(2)) % n),
+            };
+            let greatest = random.upto(delay);
+            let least = match tight {
+                0 => random.upto(greatest),
+                1 => greatest - random.upto(greatest / 4),
+                2 => greatest,
+                _ => random.upto(greatest / 2),
+            };
+            Pair { launch, capture, least, greatest }
+        })
+        .collect();
+    Net { registers: n, pairs }
+}
+
+/// The words of a net, in one case of three damaged.
+pub fn words(random: &mut Random, net: &Net) -> Vec<u32> {
+    if random.one_in(3) {
+        damaged(random, net)
+    } else {
+        encode(net)
+    }
+}
+
+/// The words of a net, damaged at one to three places.
+pub fn damaged(random: &mut Random, net: &Net) -> Vec<u32> {
+    let mut words = encode(net);
+    for _ in 0..1 + random.below(3) {
+        damage(random, net, &mut words);
+    }
+    words
+}
+
+fn damage(random: &mut Random, net: &Net, words: &mut Vec<u32>) {
+    let len = words.len();
+    let n = net.registers as u32;
+    if len == 0 {
+        return words.push(random.word());
+    }
+    let at = random.below(len);
+    let pair = 1 + 3 * random.below(net.pairs.len() + 1);
+    let inside = |k: usize| if k < len { k } else { len - 1 };
+    match random.below(14) {
+        0 => words[at] ^= 1 << random.below(32),
+        1 => words[at] = random.word(),
+        2 => words[at] = words[at] & 0x1fff_ffff | random.upto(7) << 29,
+        3 => words.truncate(random.below(len)),
+        4 => words.push(random.word()),
+        5 => drop(words.remove(at)),
+        6 => words[0] = 1 << 29 | random.pick(&[0, 1, 511, 512, 513, 1023]) << 12 | words[0] & 0xfff,
+        7 => words[0] = words[0] & !0xfff | random.pick(&[0, 1, 2047, 2048, 2049, 4095]),
+        8 => words[inside(pair)] = 2 << 29 | random.pick(&[n - 1, n, 1023]) << 10 | random.upto(n),
+        9 => words[inside(pair)] |= 1 << (20 + random.below(9)),
+        10 => words[inside(pair + 1)] = 3 << 29 | random.pick(&[0, 999_999, 1_000_000, 1_000_001, 1 << 28]),
+        11 => words[inside(pair + 2)] = 4 << 29 | random.pick(&[0, 999_999, 1_000_000, 1_000_001, 1 << 28]),
+        12 => {
+            words[inside(pair + 2)] =
+                4 << 29 | (words[inside(pair + 1)] & 0x1fff_ffff).wrapping_add(random.upto(2)).wrapping_sub(1) & 0xf_ffff
+        }
+        _ => words[len - 1] = words[len - 1].wrapping_add(random.pick(&[1, u32::MAX])),
+    }
+    if random.one_in(2) {
+        sealed(words);
+    }
+}

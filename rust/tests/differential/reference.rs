@@ -1,0 +1,349 @@
+//! The second implementation: own list format, Bellman-Ford on the constraint graph with halving over the period, 2-SAT by
+//! strongly connected components, halving for the plan; and plain searches for small nets.
+use darnerflax::{Checked, Periods, Plan, Refusal, Rule};
+
+#[derive(Clone, Copy, Debug, PartialEq, Eq)]
+pub struct Pair {
+    pub launch: usize,
+    pub capture: usize,
+    pub least: u32,
+    pub greatest: u32,
+}
+
+#[derive(Clone, Debug, PartialEq, Eq)]
+pub struct Net {
+    pub registers: usize,
+    pub pairs: Vec<Pair>,
+}
+
+pub fn refuse<T>(number: u32, place: usize) -> Result<T, Refusal> {
+    Err(Refusal { number, place })
+}
+
+// ---- the list
+
+fn low29(sum: u64) -> u32 {
+    (sum % (1 << 29)) as u32
+}
+
+/// Puts the end word right.
+pub fn sealed(words: &mut [u32]) {
+    if let Some((end, before)) = words.split_last_mut() {
+        *end = 0xe000_0000 + low29(before.iter().map(|w| *w as u64).sum());
+    }
+}
+
+pub fn encode(net: &Net) -> Vec<u32> {
+    let mut words = vec![0x2000_0000 + 4_096 * net.registers as u32 + net.pairs.len() as u32];
+    for p in &net.pairs {
+        words.push(0x4000_0000 + 1_024 * p.launch as u32 + p.capture as u32);
+        words.push(0x6000_0000 + p.least);
+        words.push(0x8000_0000 + p.greatest);
+    }
+    words.push(0);
+    sealed(&mut words);
+    words
+}
+
+/// 14, 15 and 16, with the places for registers, least and greatest.
+fn values(n: usize, p: &Pair, places: [usize; 3]) -> Result<(), Refusal> {
+    if p.launch.max(p.capture) >= n {
+        return refuse(14, places[0]);
+    }
+    if p.least > 1_000_000 {
+        return refuse(15, places[1]);
+    }
+    if p.greatest > 1_000_000 {
+        return refuse(15, places[2]);
+    }
+    if p.least > p.greatest {
+        return refuse(16, places[2]);
+    }
+    Ok(())
+}
+
+pub fn decode(words: &[u32]) -> Result<Net, Refusal> {
+    let [head, body @ .., end] = words else { return refuse(11, 0) };
+    let (m, n) = ((head & 0xfff) as usize, (head >> 12 & 0x3ff) as usize);
+    if head >> 22 != 0b001_0000000 || !(1..=512).contains(&n) || m > 2_048 {
+        return refuse(12, 0);
+    }
+    if body.len() != 3 * m {
+        return refuse(11, 0);
+    }
+    let mut pairs = Vec::new();
+    for (k, three) in body.chunks_exact(3).enumerate() {
+        let at = 1 + 3 * k;
+        let prefixes = [three[0] >> 20 == 0b010_000000000, three[1] >> 29 == 3, three[2] >> 29 == 4];
+        if let Some(i) = prefixes.iter().position(|good| !good) {
+            return refuse(13, at + i);
+        }
+        let [link, least, greatest] = [three[0] & 0xf_ffff, three[1] & 0x1fff_ffff, three[2] & 0x1fff_ffff];
+        let p = Pair { launch: link as usize / 1_024, capture: link as usize % 1_024, least, greatest };
+        values(n, &p, [at, at + 1, at + 2])?;
+        pairs.push(p);
+    }
+    let last = words.len() - 1;
+    if end >> 29 != 7 {
+        return refuse(13, last);
+    }
+    if end & 0x1fff_ffff != low29(words[..last].iter().map(|w| *w as u64).sum()) {
+        return refuse(17, last);
+    }
+    Ok(Net { registers: n, pairs })
+}
+
+/// The net that the writer's numbers give.
+pub fn given(n: u32, numbers: &[u32]) -> Result<Net, Refusal> {
+    if numbers.len() % 4 != 0 {
+        return refuse(11, 0);
+    }
+    if !(1..=512).contains(&n) || numbers.len() > 4 * 2_048 {
+        return refuse(12, 0);
+    }
+    let mut pairs = Vec::new();
+    for (k, four) in numbers.chunks_exact(4).enumerate() {
+        let p = Pair { launch: four[0] as usize, capture: four[1] as usize, least: four[2], greatest: four[3] };
+        values(n as usize, &p, [k, k, k])?;
+        pairs.push(p);
+    }
+    Ok(Net { registers: n as usize, pairs })
+}
+
+impl Net {
+    /// Launch, capture, least and greatest of each pair.
+    pub fn numbers(&self) -> Vec<u32> {
+        self.pairs.iter().flat_map(|p| [p.launch as u32, p.capture as u32, p.least, p.greatest]).collect()
+    }
+
+    pub fn scratch(&self) -> usize {
+        6 * self.registers + 4 * self.pairs.len()
+    }
+
+    // ---- schedules
+
+    pub fn common(&self) -> u32 {
+        self.pairs.iter().map(|p| p.greatest).fold(1, u32::max)
+    }
+
+    pub fn check(&self, period: u32, timings: &[u32]) -> Checked {
+        for (pair, p) in self.pairs.iter().enumerate() {
+            let (a, b) = (timings[p.launch] as i64, timings[p.capture] as i64);
+            if a - b > period as i64 - p.greatest as i64 {
+                return Checked::Broken { pair, rule: Rule::Setup };
+            }
+            if b - a > p.least as i64 {
+                return Checked::Broken { pair, rule: Rule::Hold };
+            }
+        }
+        Checked::Admissible
+    }
+
+    pub fn meets(&self, period: u32, timings: &[u32]) -> bool {
+        self.check(period, timings) == Checked::Admissible
+    }
+
+    /// Bellman-Ford for longest paths from a source that reaches each register at 0. None if a cycle keeps growing.
+    fn longest(&self, period: u32) -> Option<Vec<u32>> {
+        let arcs: Vec<(usize, usize, i64)> = self
+            .pairs
+            .iter()
+            .flat_map(|p| [(p.launch, p.capture, p.greatest as i64 - period as i64), (p.capture, p.launch, -(p.least as i64))])
+            .collect();
+        let mut far = vec![0i64; self.registers];
+        for _ in 0..=self.registers {
+            let mut moved = false;
+            for &(from, to, gain) in &arcs {
+                if far[from] + gain > far[to] {
+                    far[to] = far[from] + gain;
+                    moved = true;
+                }
+            }
+            if !moved {
+                return Some(far.into_iter().map(|t| t as u32).collect());
+            }
+        }
+        None
+    }
+
+    pub fn free(&self) -> (Periods, Vec<u32>) {
+        let common = self.common();
+        let (mut low, mut high) = (1, common);
+        while low < high {
+            let middle = (low + high) / 2;
+            if self.longest(middle).is_some() {
+                high = middle;
+            } else {
+                low = middle + 1;
+            }
+        }
+        (Periods { common, free: low }, self.longest(low).expect("zeros do at the common period"))
+    }
+
+    /// The free period and the least schedule by trying all schedules with timings up to `cap`.
+    pub fn plain_free(&self, cap: u32) -> (u32, Vec<u32>) {
+        for period in 1.. {
+            let mut least: Option<Vec<u32>> = None;
+            let mut timings = vec![0; self.registers];
+            loop {
+                if self.meets(period, &timings) {
+                    let so_far = least.get_or_insert_with(|| timings.clone());
+                    so_far.iter_mut().zip(&timings).for_each(|(x, y)| *x = (*x).min(*y));
+                }
+                let Some(r) = timings.iter().position(|t| *t < cap) else { break };
+                timings[..r].fill(0);
+                timings[r] += 1;
+            }
+            if let Some(timings) = least {
+                assert!(self.meets(period, &timings));
+                return (period, timings);
+            }
+        }
+        unreachable!()
+    }
+
+    // ---- splits
+
+    fn timings(late: &[bool], offset: u32) -> Vec<u32> {
+        late.iter().map(|l| if *l { offset } else { 0 }).collect()
+    }
+
+    /// The first split in register order by trying all.
+    pub fn plain_split(&self, period: u32, offset: u32) -> Option<Vec<u32>> {
+        let n = self.registers;
+        (0..1usize << n)
+            .map(|code| Net::timings(&(0..n).map(|r| code >> (n - 1 - r) & 1 == 1).collect::<Vec<_>>(), offset))
+            .find(|timings| self.meets(period, timings))
+    }
+
+    /// The first split in register order: satisfiable by components, then register by register.
+    pub fn first_split(&self, period: u32, offset: u32) -> Option<Vec<u32>> {
+        let graph = Implications::of(self, period, offset);
+        if !graph.satisfiable() {
+            return None;
+        }
+        let mut chosen = vec![None; self.registers];
+        for r in 0..self.registers {
+            if chosen[r].is_none() && !graph.assume(&mut chosen, r, false) {
+                assert!(graph.assume(&mut chosen, r, true), "a satisfiable net has no dead end");
+            }
+        }
+        let late: Vec<bool> = chosen.into_iter().map(|c| c == Some(true)).collect();
+        Some(Net::timings(&late, offset))
+    }
+
+    // ---- the plan
+
+    pub fn plan(&self) -> (Plan, Vec<u32>) {
+        let (Periods { common, free }, mut timings) = self.free();
+        let (mut low, mut high) = (1, common);
+        while low < high {
+            let middle = (low + high) / 2;
+            if Implications::of(self, middle, common - middle).satisfiable() {
+                high = middle;
+            } else {
+                low = middle + 1;
+            }
+        }
+        timings.extend(self.first_split(low, common - low).expect("all early does at the common period"));
+        (Plan { common, free, two: low, offset: common - low }, timings)
+    }
+
+    /// The two-timing period and its least offset by trying all periods, offsets and splits.
+    pub fn plain_two(&self) -> (u32, u32) {
+        let most = self.common() + 2;
+        (1..)
+            .find_map(|period| {
+                (0..=most).find(|offset| self.plain_split(period, *offset).is_some()).map(|offset| (period, offset))
+            })
+            .expect("all early does at the common period")
+    }
+
+    /// All delays times k: whole offsets of this net are offsets of the other in parts of 1/k.
+    pub fn times(&self, k: u32) -> Net {
+        let pairs = self.pairs.iter().map(|p| Pair { least: k * p.least, greatest: k * p.greatest, ..*p }).collect();
+        Net { pairs, ..*self }
+    }
+}
+
+/// What each choice forces: node 2r is register r early, 2r + 1 is r late.
+struct Implications(Vec<Vec<usize>>);
+
+impl Implications {
+    fn of(net: &Net, period: u32, offset: u32) -> Implications {
+        let mut next = vec![Vec::new(); 2 * net.registers];
+        for p in &net.pairs {
+            for choice in 0..4 {
+                let (a, b) = (choice / 2, choice % 2);
+                let (s, t) = (a as i64 * offset as i64, b as i64 * offset as i64);
+                if s - t > period as i64 - p.greatest as i64 || t - s > p.least as i64 {
+                    next[2 * p.launch + a].push(2 * p.capture + 1 - b);
+                    next[2 * p.capture + b].push(2 * p.launch + 1 - a);
+                }
+            }
+        }
+        Implications(next)
+    }
+
+    /// No register's two nodes share a component: Kosaraju's two passes.
+    fn satisfiable(&self) -> bool {
+        let nodes = self.0.len();
+        let mut order = Vec::with_capacity(nodes);
+        let mut seen = vec![false; nodes];
+        for start in 0..nodes {
+            if seen[start] {
+                continue;
+            }
+            seen[start] = true;
+            let mut path = vec![(start, 0)];
+            while let Some((node, i)) = path.pop() {
+                if let Some(&to) = self.0[node].get(i) {
+                    path.push((node, i + 1));
+                    if !seen[to] {
+                        seen[to] = true;
+                        path.push((to, 0));
+                    }
+                } else {
+                    order.push(node);
+                }
+            }
+        }
+        let mut back = vec![Vec::new(); nodes];
+        for (from, tos) in self.0.iter().enumerate() {
+            tos.iter().for_each(|to| back[*to].push(from));
+        }
+        let mut part = vec![usize::MAX; nodes];
+        for &start in order.iter().rev() {
+            let mut todo = vec![start];
+            while let Some(node) = todo.pop() {
+                if part[node] == usize::MAX {
+                    part[node] = start;
+                    todo.extend(&back[node]);
+                }
+            }
+        }
+        part.chunks(2).all(|two| two[0] != two[1])
+    }
+
+    /// Takes register r early or late with all that follows, or leaves everything as it was.
+    fn assume(&self, chosen: &mut [Option<bool>], r: usize, late: bool) -> bool {
+        let mut taken = Vec::new();
+        let mut todo = vec![2 * r + late as usize];
+        while let Some(node) = todo.pop() {
+            let (r, late) = (node / 2, node % 2 == 1);
+            match chosen[r] {
+                None => {
+                    chosen[r] = Some(late);
+                    taken.push(r);
+                    todo.extend(&self.0[node]);
+                }
+                Some(other) if other != late => {
+                    taken.into_iter().for_each(|r| chosen[r] = None);
+                    return false;
+                }
+                Some(_) => {}
+            }
+        }
+        true
+    }
+}

@@ -1,0 +1,174 @@
+//! Jobs 2 and 3: checking a schedule, the free period and the free schedule.
+use darnerflax::{check, free, Checked, Periods, Rule};
+
+use crate::lent::Lent;
+use crate::random::{damaged, exact_net, net, words, Random, Size};
+use crate::reference::{decode, encode, refuse, Net, Pair};
+use crate::tally::Tally;
+
+fn named(found: &Checked) -> &'static str {
+    match found {
+        Checked::Admissible => "admissible",
+        Checked::Broken { rule: Rule::Setup, .. } => "setup",
+        Checked::Broken { rule: Rule::Hold, .. } => "hold",
+    }
+}
+
+fn try_check(words: &[u32], period: u32, timings: &[u32], tally: &mut Tally) {
+    let expected = decode(words).and_then(|net| {
+        let fits =
+            (1..=1_000_000).contains(&period) && timings.len() == net.registers && timings.iter().all(|t| *t <= 511_000_000);
+        if fits {
+            Ok(net.check(period, timings))
+        } else {
+            refuse(3, 0)
+        }
+    });
+    assert_eq!(check(words, period, timings), expected, "{words:x?} {period} {timings:?}");
+    tally.answer(&expected, named);
+}
+
+/// A schedule that is admissible or nearly so, at a period at or near the least for it.
+fn try_near(random: &mut Random, periods: Periods, mut timings: Vec<u32>, words: &[u32], tally: &mut Tally) {
+    let mut period = random.pick(&[periods.free, periods.free, periods.common, periods.free + 1, periods.free - 1]);
+    if random.one_in(3) {
+        let by = random.upto(1_000);
+        timings.iter_mut().for_each(|t| *t += by);
+    }
+    if random.one_in(2) {
+        let r = random.below(timings.len());
+        timings[r] = timings[r].wrapping_add(random.pick(&[1, u32::MAX, 2, 1_000]));
+    }
+    match random.below(30) {
+        0 => period = random.pick(&[0, 1, 999_999, 1_000_000, 1_000_001, u32::MAX]),
+        1 => timings.push(0),
+        2 => drop(timings.pop()),
+        3 => {
+            let r = random.below(timings.len());
+            timings[r] = random.pick(&[511_000_000, 511_000_001, u32::MAX]);
+        }
+        4 => timings.iter_mut().for_each(|t| *t = random.upto(511_000_000)),
+        _ => {}
+    }
+    try_check(words, period, &timings, tally);
+}
+
+const CHECKED: &[&str] = &["admissible", "setup", "hold", "3", "11", "12", "13", "14", "15", "16", "17"];
+
+#[test]
+fn small_schedules_checked() {
+    let mut random = Random::new(11);
+    let mut tally = Tally::default();
+    for _ in 0..200_000 {
+        let delay = random.pick(&[5, 20, 1_000_000]);
+        let net = net(&mut random, Size { registers: 7, pairs: 9, delay });
+        let words = words(&mut random, &net);
+        let (periods, timings) = net.free();
+        try_near(&mut random, periods, timings, &words, &mut tally);
+    }
+    tally.all_met("small schedules checked", CHECKED);
+}
+
+#[test]
+fn full_schedules_checked() {
+    let mut random = Random::new(12);
+    let mut tally = Tally::default();
+    for _ in 0..100 {
+        let net = exact_net(&mut random, 512, 2_048, 1_000_000);
+        let words = encode(&net);
+        let (periods, timings) = net.free();
+        for _ in 0..100 {
+            try_near(&mut random, periods, timings.clone(), &words, &mut tally);
+        }
+        for _ in 0..20 {
+            let words = damaged(&mut random, &net);
+            try_near(&mut random, periods, timings.clone(), &words, &mut tally);
+        }
+    }
+    tally.all_met("full schedules checked", CHECKED);
+}
+
+fn try_free(random: &mut Random, words: &[u32], tally: &mut Tally) {
+    let decoded = decode(words);
+    let room = random.room(decoded.as_ref().map_or(3, |net| net.registers));
+    let mut answer = Lent::new(random, room);
+    let (expected, stored) = match decoded {
+        Ok(net) if room < net.registers => (refuse(2, 0), vec![]),
+        Ok(net) => {
+            let (periods, timings) = net.free();
+            (Ok(periods), timings)
+        }
+        Err(refusal) => (Err(refusal), vec![]),
+    };
+    assert_eq!(free(words, answer.slice()), expected, "{words:x?}");
+    assert!(answer.holds(&stored), "{words:x?}");
+    tally.answer(&expected, |periods| if periods.free < periods.common { "shorter" } else { "common" });
+}
+
+const FREED: &[&str] = &["shorter", "common", "2", "11", "12", "13", "14", "15", "16", "17"];
+
+#[test]
+fn small_nets_freed() {
+    let mut random = Random::new(13);
+    let mut tally = Tally::default();
+    for _ in 0..200_000 {
+        let delay = random.pick(&[4, 30, 1_000_000]);
+        let net = net(&mut random, Size { registers: 9, pairs: 14, delay });
+        let words = words(&mut random, &net);
+        try_free(&mut random, &words, &mut tally);
+    }
+    tally.all_met("small nets freed", FREED);
+}
+
+#[test]
+fn middle_nets_freed() {
+    let mut random = Random::new(14);
+    let mut tally = Tally::default();
+    for _ in 0..20_000 {
+        let delay = random.pick(&[30, 1_000, 1_000_000]);
+        let net = net(&mut random, Size { registers: 60, pairs: 150, delay });
+        let words = words(&mut random, &net);
+        try_free(&mut random, &words, &mut tally);
+    }
+    tally.all_met("middle nets freed", FREED);
+}
+
+#[test]
+fn full_nets_freed() {
+    let mut random = Random::new(15);
+    let mut tally = Tally::default();
+    for _ in 0..500 {
+        let delay = random.pick(&[30, 1_000, 1_000_000]);
+        let m = random.pick(&[2_048, 2_048, 600, 512, 511]);
+        let net = exact_net(&mut random, 512, m, delay);
+        try_free(&mut random, &encode(&net), &mut tally);
+    }
+    tally.all_met("full nets freed", &["shorter", "common", "2"]);
+}
+
+/// The largest timing there is: a chain of 512 whose steps each ask for all that a delay allows.
+#[test]
+fn longest_chain_freed() {
+    let mut random = Random::new(16);
+    let pairs = (0..511).map(|r| Pair { launch: r, capture: r + 1, least: 1_000_000, greatest: 1_000_000 }).collect();
+    let chain = Net { registers: 512, pairs };
+    let (periods, timings) = chain.free();
+    assert_eq!((periods.free, timings[511]), (1, 511 * 999_999));
+    let mut answer = Lent::new(&mut random, 512);
+    assert_eq!(free(&encode(&chain), answer.slice()), Ok(periods));
+    assert!(answer.holds(&timings));
+}
+
+/// Against all schedules, tried one by one.
+#[test]
+fn tiny_nets_freed_plainly() {
+    let mut random = Random::new(17);
+    for _ in 0..6_000 {
+        let net = net(&mut random, Size { registers: 3, pairs: 5, delay: 4 });
+        let (period, timings) = net.plain_free(8);
+        let mut answer = Lent::new(&mut random, net.registers);
+        let periods = free(&encode(&net), answer.slice()).expect("a list that is accepted");
+        assert_eq!((periods.common, periods.free), (net.common(), period), "{net:?}");
+        assert!(answer.holds(&timings), "{net:?}");
+    }
+}

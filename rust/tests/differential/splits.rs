@@ -1,0 +1,124 @@
+//! Job 4: the first split at a period and an offset.
+use darnerflax::{split, Split};
+
+use crate::lent::Lent;
+use crate::random::{exact_net, net, words, Random, Size};
+use crate::reference::{decode, encode, refuse, Net};
+use crate::tally::Tally;
+
+fn try_split(
+    random: &mut Random,
+    words: &[u32],
+    period: u32,
+    offset: u32,
+    by: fn(&Net, u32, u32) -> Option<Vec<u32>>,
+    tally: &mut Tally,
+) {
+    let decoded = decode(words);
+    let (n, need) = decoded.as_ref().map_or((3, 9), |net| (net.registers, net.scratch()));
+    let (room, spare) = (random.room(n).max(random.pick(&[0, n])), random.room(need).max(random.pick(&[0, need])));
+    let (mut answer, mut scratch) = (Lent::new(random, room), Lent::new(random, spare));
+    let expected = decoded.and_then(|net| {
+        if !(1..=1_000_000).contains(&period) || offset > 1_000_000 {
+            refuse(3, 0)
+        } else if room < n {
+            refuse(2, 0)
+        } else if spare < need {
+            refuse(1, 0)
+        } else {
+            Ok(by(&net, period, offset))
+        }
+    });
+    let told = expected.clone().map(|found| if found.is_some() { Split::Found } else { Split::None });
+    assert_eq!(split(words, period, offset, answer.slice(), scratch.slice()), told, "{words:x?} {period} {offset}");
+    let zeros = vec![0; if expected.is_ok() { need } else { 0 }];
+    let stored = expected.ok().flatten().unwrap_or_default();
+    assert!(answer.holds(&stored), "{words:x?} {period} {offset}");
+    assert!(scratch.holds(&zeros), "{words:x?} {period} {offset}");
+    tally.answer(&told, |s| if *s == Split::Found { "found" } else { "none" });
+}
+
+/// A period and an offset that often lie near the edge of what works.
+fn near(random: &mut Random, net: &Net) -> (u32, u32) {
+    let common = net.common();
+    let period = match random.below(4) {
+        0 => 1 + random.upto(common - 1),
+        1 => common.max(2) - 1,
+        2 => common + random.upto(1),
+        _ => (common - random.upto(common / 4)).max(1),
+    };
+    let offset = match random.below(4) {
+        0 => random.upto(common),
+        1 => common.saturating_sub(period) + random.upto(2),
+        2 => net.pairs.first().map_or(0, |p| p.least),
+        _ => common.saturating_sub(period),
+    };
+    match random.below(40) {
+        0 => (random.pick(&[0, 1, 1_000_000, 1_000_001, u32::MAX]), offset),
+        1 => (period, random.pick(&[0, 1, 1_000_000, 1_000_001, u32::MAX])),
+        _ => (period, offset),
+    }
+}
+
+const SPLIT: &[&str] = &["found", "none", "1", "2", "3", "11", "12", "13", "14", "15", "16", "17"];
+
+/// Damage can make a net of many registers.
+fn plainly(net: &Net, period: u32, offset: u32) -> Option<Vec<u32>> {
+    if net.registers <= 6 {
+        net.plain_split(period, offset)
+    } else {
+        net.first_split(period, offset)
+    }
+}
+
+/// Against all splits, tried one by one.
+#[test]
+fn tiny_nets_split_plainly() {
+    let mut random = Random::new(21);
+    let mut tally = Tally::default();
+    for _ in 0..150_000 {
+        let delay = random.pick(&[3, 8, 1_000_000]);
+        let net = net(&mut random, Size { registers: 5, pairs: 8, delay });
+        let words = words(&mut random, &net);
+        let (period, offset) = near(&mut random, &net);
+        try_split(&mut random, &words, period, offset, plainly, &mut tally);
+    }
+    tally.all_met("tiny nets split, all splits", SPLIT);
+}
+
+#[test]
+fn small_nets_split() {
+    let mut random = Random::new(22);
+    let mut tally = Tally::default();
+    for _ in 0..150_000 {
+        let delay = random.pick(&[6, 40, 1_000_000]);
+        let net = net(&mut random, Size { registers: 20, pairs: 30, delay });
+        let words = words(&mut random, &net);
+        let (period, offset) = near(&mut random, &net);
+        try_split(&mut random, &words, period, offset, Net::first_split, &mut tally);
+    }
+    tally.all_met("small nets split", SPLIT);
+}
+
+#[test]
+fn full_nets_split() {
+    let mut random = Random::new(23);
+    let mut tally = Tally::default();
+    for _ in 0..200 {
+        let delay = random.pick(&[30, 1_000, 1_000_000]);
+        let m = random.pick(&[2_048, 600, 511]);
+        let net = exact_net(&mut random, 512, m, delay);
+        let (plan, _) = net.plan();
+        let words = encode(&net);
+        for _ in 0..20 {
+            let (period, offset) = match random.below(5) {
+                0 => (plan.two, plan.offset),
+                1 => (plan.two.max(2) - 1, plan.common - plan.two.max(2) + 1),
+                2 => (plan.two + 1, plan.offset),
+                _ => near(&mut random, &net),
+            };
+            try_split(&mut random, &words, period, offset, Net::first_split, &mut tally);
+        }
+    }
+    tally.all_met("full nets split", &["found", "none", "1", "2", "3"]);
+}

@@ -1,0 +1,75 @@
+//! The worked examples, and calls with nothing lent at all.
+use darnerflax::*;
+
+/// 0-1 7/10 and 1-0 1/3.
+const P: [u32; 8] = [0x2000_2002, 0x4000_0001, 0x6000_0007, 0x8000_000a, 0x4000_0400, 0x6000_0001, 0x8000_0003, 0xe000_2418];
+
+fn list(n: u32, numbers: &[u32]) -> Vec<u32> {
+    let mut words = vec![0; MAX_WORDS];
+    let count = write(n, numbers, &mut words).unwrap();
+    words.truncate(count);
+    words
+}
+
+/// The numbers of the plan, the free timings and the split.
+fn planned(words: &[u32]) -> ([u32; 4], Vec<u32>, Vec<u32>) {
+    let mut answer = [7; 2 * MAX_REGISTERS];
+    let mut scratch = vec![7; scratch_places(MAX_REGISTERS, MAX_PAIRS)];
+    let Plan { common, free, two, offset } = plan(words, &mut answer, &mut scratch).unwrap();
+    let n = read(words, &mut [0; 4 * MAX_PAIRS]).unwrap().registers as usize;
+    ([common, free, two, offset], answer[..n].to_vec(), answer[n..2 * n].to_vec())
+}
+
+#[test]
+fn plans() {
+    assert_eq!(planned(&P), ([10, 7, 7, 3], vec![0, 3], vec![0, 3]));
+    assert_eq!(planned(&list(2, &[0, 1, 3, 10])).0, [10, 7, 7, 3]);
+    assert_eq!(planned(&list(2, &[0, 1, 0, 10])).0, [10, 10, 10, 0]);
+    assert_eq!(planned(&list(2, &[0, 1, 10, 10])).0, [10, 1, 1, 9]);
+    let ring = list(3, &[0, 1, 9, 9, 1, 2, 9, 9, 2, 0, 3, 3]);
+    assert_eq!(planned(&ring), ([9, 7, 9, 0], vec![0, 2, 4], vec![0, 0, 0]));
+    assert_eq!(planned(&list(3, &[])).0, [1, 1, 1, 0]);
+    assert_eq!(planned(&list(1, &[0, 0, 0, 5])).0, [5, 5, 5, 0]);
+    assert_eq!(planned(&list(2, &[0, 1, 7, 10, 0, 1, 2, 4])).0, [10, 8, 8, 2]);
+}
+
+#[test]
+fn splits_of_p() {
+    for (offset, works) in [(2, false), (3, true), (4, true), (5, false)] {
+        let (mut answer, mut scratch) = ([9; 2], [9; 20]);
+        let found = split(&P, 7, offset, &mut answer, &mut scratch);
+        assert_eq!(found, Ok(if works { Split::Found } else { Split::None }));
+        assert_eq!(answer, if works { [0, offset] } else { [9, 9] });
+        assert_eq!(scratch, [0; 20]);
+    }
+}
+
+#[test]
+fn edges_of_a_list() {
+    let one = |n, four: [u32; 4]| write(n, &four, &mut [0; 5]).map_err(|refusal| refusal.number);
+    assert_eq!([one(2, [0, 1, 0, 1_000_000]), one(2, [0, 1, 0, 1_000_001])], [Ok(5), Err(15)]);
+    assert_eq!([one(2, [0, 1, 4, 4]), one(2, [0, 1, 4, 3])], [Ok(5), Err(16)]);
+    assert_eq!([one(2, [0, 1, 0, 0]), one(2, [0, 2, 0, 0])], [Ok(5), Err(14)]);
+}
+
+#[test]
+fn checks_of_p() {
+    assert_eq!(check(&P, 7, &[0, 3]), Ok(Checked::Admissible));
+    assert_eq!(check(&P, 6, &[0, 3]), Ok(Checked::Broken { pair: 0, rule: Rule::Setup }));
+    assert_eq!(check(&P, 10, &[0, 8]), Ok(Checked::Broken { pair: 0, rule: Rule::Hold }));
+    assert_eq!(check(&P, 10, &[0]), Err(Refusal { number: 3, place: 0 }));
+}
+
+#[test]
+fn nothing_lent() {
+    let short = Refusal { number: 11, place: 0 };
+    assert_eq!(read(&[], &mut []), Err(short));
+    assert_eq!(write(1, &[], &mut []), Err(Refusal { number: 2, place: 0 }));
+    assert_eq!(check(&[], 1, &[]), Err(short));
+    assert_eq!(free(&[], &mut []), Err(short));
+    assert_eq!(split(&[], 1, 0, &mut [], &mut []), Err(short));
+    assert_eq!(plan(&[], &mut [], &mut []), Err(short));
+    let mut text = [b'.'; TEXT_PLACES];
+    let count = report(&[], &mut text);
+    assert_eq!(&text[..count], b"refused 11 at 0\n");
+}
