@@ -2,7 +2,8 @@
 use std::path::Path;
 
 fn main() {
-    let folder = Path::new(env!("CARGO_MANIFEST_DIR")).join("../target/staticlib");
+    let root = std::env::var("CARGO_MANIFEST_DIR").unwrap_or_else(|_| ".".into());
+    let folder = Path::new(&root).join("../target/staticlib");
     let archive = folder.join("libplanner_c.a");
     println!("cargo:rerun-if-changed={}", archive.display());
     if !archive.is_file() {

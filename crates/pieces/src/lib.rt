@@ -42,7 +42,7 @@ pub fn put_number(text: &mut [u8], at: usize, n: u64, end: u8) -> usize
     put_byte(text, last, end)
 }
 
-fn put_bytes(text: &mut [u8], at: usize, bytes: &[u8]) -> usize
+pub fn put_bytes(text: &mut [u8], at: usize, bytes: &[u8]) -> usize
     requires { ⌜ at + length (now bytes) ≤ length (now text) ⌝ }
     ensures { λ r. ⌜ Put (length (now (bytes .entry))) (now (bytes .entry)) (now (text .entry)) at (now (text .exit)) r ⌝ }
 {

@@ -1,1 +1,2 @@
 pub mod ToldLaws
+pub mod Apart

@@ -1,5 +1,6 @@
 // The five jobs for C and Rust: plain numbers, slices as pointer and length, and a reply of five places.
-// The contracts cite `specs/Coded.antt` for status and reply, and each job's own definition of what a call comes to.
+// The contracts cite `specs/Coded.antt` for status and reply, and each job's own definition of what a call comes to;
+// `proofs/Apart.antt` proves that no two answers of a job are told alike.
 ghost use mathlib.Core.Path.{_≡_};
 ghost use mathlib.Core.List.{[], _∷_};
 ghost use lib.ListN.{length};

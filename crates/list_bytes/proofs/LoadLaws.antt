@@ -1,0 +1,46 @@
+-- The words in the first places of a buffer.
+use Prim.Native.Nat.{ℕ, _*_, _/_, _%_, _^_, _≤_, _<_}
+use mathlib.Core.List.{List, [], _∷_}
+use mathlib.Core.Path.{_≡_, refl, _∙_}
+use native.Mathlib.Nat.{one-mul}
+use native.Mathlib.Omega.{arith}
+use lib.ListN.{length, take, drop, getD}
+use lib.Seq.{take-at}
+use borrow.Author.Tests.{lt-ltb, le-ltb, eq-eqb, ne-eqb}
+use Rattle.buffers.specs.Over.{over}
+use Rattle.buffers.proofs.RunLaws.{run-length}
+use Rattle.words.specs.Bytes.{wordAt, toWords, toBytes}
+use Rattle.words.proofs.BytesLaws.{bytes-back}
+use Rattle.list_bytes.specs.ListBytes.{maxBytes, maxWords, listOf, LoadedAs}
+
+words-size : (bs : List ℕ) (k : ℕ) → length (toWords bs k) ≡ k
+words-size bs k = run-length (λ i. wordAt bs i ∷ []) 1 (λ i. refl) k ∙ one-mul k
+
+module _ (bs : List ℕ) where
+  pub load-long : (now : List ℕ) → maxBytes < length bs → LoadedAs bs now 0
+  unfolding listOf
+  load-long now h = record { room = omega arith; most = omega arith; words = rw (lt-ltb maxBytes (length bs) h) }
+
+  pub load-odd : (now : List ℕ) → length bs ≤ maxBytes → (length bs % 4 ≡ 0 → ⊥) → LoadedAs bs now 0
+  unfolding listOf
+  load-odd now h odd = record { room = omega arith; most = omega arith; words = rw (le-ltb maxBytes (length bs) h, ne-eqb (length bs % 4) 0 odd) }
+
+  -- four bytes to a word
+  pub list-even : length bs ≤ maxBytes → length bs % 4 ≡ 0 → listOf bs ≡ toWords bs (length bs / 4)
+  unfolding listOf
+  list-even h even = rw (le-ltb maxBytes (length bs) h, eq-eqb (length bs % 4) 0 even)
+
+  pub load-done : (was now : List ℕ) → length bs ≤ maxBytes → length bs % 4 ≡ 0 → length bs / 4 ≤ length now → now ≡ over (toWords bs (length bs / 4)) was
+      → LoadedAs bs now (length bs / 4)
+  load-done was now h even room e =
+      record {
+        room = room;
+        most = omega arith;
+        words = rw (list-even h even, e) (take-at (toWords bs (length bs / 4)) (drop (length (toWords bs (length bs / 4))) was) (length bs / 4) (words-size bs (length bs / 4)));
+      }
+
+  -- the bytes of the words are the bytes
+  pub list-back : length bs ≤ maxBytes → length bs % 4 ≡ 0 → ((i : ℕ) → getD bs i 0 < 2 ^ 8) → toBytes (listOf bs) (length (listOf bs)) ≡ bs
+  list-back h even small =
+      let k : ℕ = length bs / 4 in
+      rw (list-even h even, words-size bs k) (bytes-back bs k (omega arith) small)

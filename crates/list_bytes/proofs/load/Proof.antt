@@ -1,0 +1,20 @@
+-- One law for each way to end.
+use native.Mathlib.Omega.{arith}
+use Rattle.list_bytes.proofs.LoadLaws.{load-long, load-odd, load-done}
+use borrow.Author.Needs.{needs}
+use Rattle.list_bytes.proofs.load.Statement.{statement}
+use Rattle.list_bytes.proofs.load.Tie as tie
+
+returns : tie.Need-returns
+returns c = load-long _ _ (c .if1 .taken)
+
+returns-2 : tie.Need-returns-2
+returns-2 c = load-odd _ _ (c .before .if1 .left) (c .if2 .taken)
+
+returns-3 : tie.Need-returns-3
+returns-3 c =
+    let made = c .to-words in
+    load-done _ _ (made .last .1 .1 .0) (c .before .before .before .if1 .left) (c .before .before .if2 .left) (omega (arith, made .kept .1 .1 .0)) (made .ensures)
+
+pub load-spec : {M : Type 1} → statement M
+load-spec = tie.close (tie.spec returns returns-2 (λ c κs. search needs) returns-3)

@@ -1,0 +1,27 @@
+-- The words of a delay list that came as bytes.
+use Prim.Native.Nat.{ℕ, _+_, _*_, _/_, _%_, _≤_}
+use mathlib.Core.Bool.{cond}
+use mathlib.Core.List.{List, []}
+use mathlib.Core.Path.{_≡_}
+use lib.Dec.{ltb, eqb}
+use lib.ListN.{length, take}
+use Rattle.timing.specs.Limits.{maxPairs}
+use Rattle.words.specs.Bytes.{toWords}
+use Rattle.list_format.specs.Lists.{pairPlace}
+
+-- the words and the bytes of the longest list
+abbrev pub maxWords : ℕ
+maxWords = pairPlace maxPairs + 1
+
+abbrev pub maxBytes : ℕ
+maxBytes = 4 * maxWords
+
+-- more bytes than the longest list has, or not four to a word, make no words: every job refuses them by 11 at 0
+unfoldable pub listOf : List ℕ → List ℕ
+listOf bs = cond (ltb maxBytes (length bs)) [] (cond (eqb (length bs % 4) 0) (toWords bs (length bs / 4)) [])
+
+-- the words of the bytes bs stand in the first places of a buffer that holds `now`
+pub record LoadedAs (bs now : List ℕ) (count : ℕ) : Type 0 where
+  pub room : count ≤ length now
+  pub most : count ≤ maxWords
+  pub words : take count now ≡ listOf bs

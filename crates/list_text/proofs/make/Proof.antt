@@ -1,0 +1,36 @@
+-- The numbers of the text, and then the list that they make.
+use Rattle.list_text.proofs.ListTextLaws.{numbers-some, numbers-room, make-faulty, make-numbers}
+use borrow.Author.Needs.{needs}
+use Rattle.list_text.proofs.make.Statement.{statement}
+use Rattle.list_text.proofs.make.Tie as tie
+
+sub-put-made : tie.Need-sub-put-made
+sub-put-made c = numbers-some (c .before .before .before .before .scan .ensures) (c .before .before .count .given .1)
+
+part-put-made-start : tie.Need-part-put-made-start
+part-put-made-start c = numbers-some (c .before .before .before .before .before .scan .ensures) (c .before .before .before .count .given .1)
+
+part-put-made-end : tie.Need-part-put-made-end
+part-put-made-end c = numbers-room (c .before .before .before .before .before .scan .ensures) (c .before .before .before .count .given .1)
+
+returns : tie.Need-returns
+returns c = make-faulty (c .before .before .before .before .before .scan .ensures) (c .before .before .before .fault .given .1) (c .put-fault .ensures)
+
+returns-2 : tie.Need-returns-2
+returns-2 c = make-numbers (c .before .before .before .before .before .before .before .scan .ensures) (c .before .before .before .before .before .count .given .1) (c .put-made .ensures)
+
+pub make-spec : {M : Type 1} → statement M
+make-spec =
+    tie.close
+    (tie.spec
+    (λ c κs. search needs)
+    (λ c. search needs)
+    (λ c κs. search needs)
+    (λ c. search needs)
+    (λ c. search needs)
+    sub-put-made
+    part-put-made-start
+    part-put-made-end
+    (λ c κs. search needs)
+    returns
+    returns-2)

@@ -1,0 +1,15 @@
+use native.Mathlib.Omega.{arith}
+use Rattle.pieces.proofs.PutLaws.{put-then, put-within}
+use Rattle.list_text.specs.ListText.{textOf}
+use borrow.Author.Needs.{needs}
+use Rattle.list_text.proofs.put_list.Statement.{statement}
+use Rattle.list_text.proofs.put_list.Tie as tie
+
+returns : tie.Need-returns
+unfolding textOf
+returns c =
+    let put = put-then (c .before .before .before .before .before .before .put-number .ensures) (c .before .before .put-pairs .ensures) in
+    put-within put (omega (arith, put .most))
+
+pub put-list-spec : {M : Type 1} → statement M
+put-list-spec = tie.close (tie.spec (λ c κs. search needs) (λ c κs. search needs) (λ c. search needs) returns)

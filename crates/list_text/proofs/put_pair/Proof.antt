@@ -1,0 +1,19 @@
+use Rattle.pieces.proofs.PutLaws.{put-then}
+use borrow.Author.Needs.{needs}
+use Rattle.list_text.proofs.put_pair.Statement.{statement}
+use Rattle.list_text.proofs.put_pair.Tie as tie
+
+returns : tie.Need-returns
+returns c =
+    put-then (c .before .before .before .before .before .before .before .before .before .before .before .before .before .before .put-number .ensures) (put-then (c .before .before .before .before .before .before .before .before .before .before .put-number2 .ensures) (put-then (c .before .before .before .before .before .before .put-number3 .ensures) (c .before .before .put-number4 .ensures)))
+
+pub put-pair-spec : {M : Type 1} → statement M
+put-pair-spec =
+    tie.close
+    (tie.spec
+    (λ c κs. search needs)
+    (λ c κs. search needs)
+    (λ c κs. search needs)
+    (λ c κs. search needs)
+    (λ c. search needs)
+    returns)

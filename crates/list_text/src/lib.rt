@@ -1,0 +1,128 @@
+// A delay list as plain text, and back. What `show` writes, `make` reads back to the same bytes: `proofs/RoundTrip.antt`.
+// The contracts cite `specs/ListText.antt`.
+ghost use mathlib.Core.Path.{_≡_};
+ghost use Prim.Native.Nat.{_+_, _*_, _≤_};
+ghost use lib.ListN.{length};
+ghost use Rattle.pieces.specs.Pieces.{Put};
+ghost use Rattle.list_format.specs.Read.{reading};
+ghost use Rattle.list_format.specs.Write.{givenCount, writing};
+ghost use Rattle.list_bytes.specs.ListBytes.{maxWords, maxBytes};
+ghost use Rattle.timing.specs.Limits.{maxPairs};
+ghost use Rattle.list_text.specs.ListText.{fourLine, pairLine, textOf, shownAs, shown, madeAs, made};
+ghost use Rattle.buffers.specs.Run.{run};
+ghost use Rattle.words.specs.Bytes.{toBytes};
+use list_bytes::MAX_BYTES;
+use list_bytes::MAX_WORDS;
+use list_format::Reading;
+use list_format::Writing;
+use pieces::put_number;
+use scan::MAX_NUMBERS;
+use scan::Scanned;
+use timing::MAX_PAIRS;
+
+// The numbers of the longest list.
+const PAIR_NUMBERS: usize = 4 * MAX_PAIRS;
+
+// Places enough for any text: 20 digits for each number.
+pub const TEXT_PLACES: usize = 84 * MAX_PAIRS + 133;
+
+// The line of a pair.
+fn put_pair(text: &mut [u8], at: usize, a: u32, b: u32, c: u32, d: u32) -> usize
+    requires { ⌜ at + 84 ≤ length (now text) ⌝ }
+    ensures { λ r. ⌜ Put 84 (fourLine a b c d) (now (text .entry)) at (now (text .exit)) r ⌝ }
+{
+    let first = put_number(text, at, a as u64, b' ');
+    let second = put_number(text, first, b as u64, b' ');
+    let third = put_number(text, second, c as u64, b' ');
+    put_number(text, third, d as u64, b'\n')
+}
+
+// The lines of m pairs.
+fn put_pairs(text: &mut [u8], at: usize, numbers: &[u32], m: usize) -> usize
+    requires { ⌜ (4 * m ≤ length (now numbers)) × (at + 84 * m ≤ length (now text)) ⌝ }
+    ensures { λ r. ⌜ Put (84 * m) (run (pairLine (now (numbers .entry))) m) (now (text .entry)) at (now (text .exit)) r ⌝ }
+{
+    let mut last = at;
+    let mut k = 0;
+    while k < m {
+        let i = 4 * k;
+        last = put_pair(
+            text,
+            last,
+            numbers[i],
+            numbers[i + 1],
+            numbers[i + 2],
+            numbers[i + 3],
+        );
+        k += 1;
+    }
+    last
+}
+
+// The text of n registers and the pairs that the numbers make.
+fn put_list(text: &mut [u8], n: u32, numbers: &[u32]) -> usize
+    requires { ⌜ (length (now numbers) ≤ 4 * maxPairs) × (84 * maxPairs + 21 ≤ length (now text)) ⌝ }
+    ensures { λ r. ⌜ Put (84 * maxPairs + 21) (textOf n (now (numbers .entry))) (now (text .entry)) 0 (now (text .exit)) r ⌝ }
+{
+    let m = numbers.len() / 4;
+    let at = put_number(text, 0, n as u64, b'\n');
+    put_pairs(text, at, numbers, m)
+}
+
+// The text for a run of words.
+fn put_words(text: &mut [u8], words: &[u32]) -> usize
+    requires { ⌜ 84 * maxPairs + 133 ≤ length (now text) ⌝ }
+    ensures { λ r. ⌜ Put (84 * maxPairs + 133) (shownAs (reading (now (words .entry)) (4 * maxPairs))) (now (text .entry)) 0 (now (text .exit)) r ⌝ }
+{
+    let mut numbers = [0u32; PAIR_NUMBERS];
+    match read_list::read(words, &mut numbers) {
+        Reading::Refused(number, place) => plain_words::put_refusal(text, number, place),
+        Reading::Read(n, m) => {
+            let count = 4 * m as usize;
+            put_list(text, n, &numbers[..count])
+        }
+    }
+}
+
+// The text for the bytes of a list, in the first places of `text`; later places keep their contents. The count of its bytes is returned.
+pub fn show(bytes: &[u8], text: &mut [u8; TEXT_PLACES]) -> usize
+    ensures { λ r. ⌜ Put (84 * maxPairs + 133) (shown (now (bytes .entry))) (now (text .entry)) 0 (now (text .exit)) r ⌝ }
+{
+    let mut words = [0u32; MAX_WORDS];
+    let count = list_bytes::load(bytes, &mut words);
+    put_words(text, &words[..count])
+}
+
+// The bytes of all words.
+fn put_bytes(out: &mut [u8], words: &[u32]) -> usize
+    requires { ⌜ 4 * length (now words) ≤ length (now out) ⌝ }
+    ensures { λ r. ⌜ Put (4 * length (now (words .entry))) (toBytes (now (words .entry)) (length (now (words .entry)))) (now (out .entry)) 0 (now (out .exit)) r ⌝ }
+{
+    let count = words.len();
+    words::to_bytes(words, count, out);
+    4 * count
+}
+
+// The bytes of the list that the numbers make.
+fn put_made(out: &mut [u8], n: u32, numbers: &[u32]) -> usize
+    requires { ⌜ maxBytes ≤ length (now out) ⌝ }
+    ensures { λ r. ⌜ Put maxBytes (madeAs (writing n (now (numbers .entry)) maxWords)) (now (out .entry)) 0 (now (out .exit)) r ⌝ }
+{
+    let mut words = [0u32; MAX_WORDS];
+    match write_list::write(n, numbers, &mut words) {
+        Writing::Refused(number, place) => plain_words::put_refusal(out, number, place),
+        Writing::Written(count) => put_bytes(out, &words[..count]),
+    }
+}
+
+// The bytes of the list that a text describes, in the first places of `out`; later places keep their contents. Of a faulty text, or of
+// numbers that make no list, one line says what is wrong. The count of the bytes is returned.
+pub fn make(text: &[u8], out: &mut [u8; MAX_BYTES]) -> usize
+    ensures { λ r. ⌜ Put maxBytes (made (now (text .entry))) (now (out .entry)) 0 (now (out .exit)) r ⌝ }
+{
+    let mut numbers = [0u32; MAX_NUMBERS];
+    match scan::scan(text, true, &mut numbers) {
+        Scanned::Faulty(fault, line) => plain_words::put_fault(out, fault, line),
+        Scanned::Numbers(count) => put_made(out, numbers[0], &numbers[1..count]),
+    }
+}

@@ -1,0 +1,4 @@
+pub mod CaseLaws
+pub mod StateLaws
+pub mod WalkLaws
+pub mod ReadsLaws

@@ -1,0 +1,256 @@
+// Decimal numbers in a text, read byte by byte: separated by spaces and newlines, or in the lines of a delay list.
+// The contracts cite `specs/Scan.antt`.
+ghost use mathlib.Core.Path.{_≡_};
+ghost use Prim.Native.Nat.{_+_, _≤_, _<_};
+ghost use lib.ListN.{length};
+ghost use Rattle.scan.specs.Scan.{textBytes, maxNumbers, start, failed, withDigit, closed, lineFault, lineEnded, step, finished, keptIn, StateIn, Walked, ScanAs};
+use timing::MAX_PAIRS;
+
+// The most numbers that a text may hold: the count of registers, and four for each pair.
+pub const MAX_NUMBERS: usize = 4 * MAX_PAIRS + 1;
+
+// The longest text.
+pub const TEXT_BYTES: usize = 131_072;
+
+// How far the reading of a text has come.
+pub struct State {
+    // whether the lines are those of a delay list
+    pub lined: bool,
+    // the line, counted from 1
+    pub line: usize,
+    // the numbers that stand in the lines before it
+    pub first: usize,
+    // the numbers that have ended
+    pub count: usize,
+    // whether a number has begun, and its value so far
+    pub inside: bool,
+    pub value: u32,
+    // 0, or what is wrong
+    pub fault: u32,
+}
+
+// What reading a text comes to: the count of its numbers, or what is wrong and the line.
+pub enum Scanned {
+    Numbers(usize),
+    Faulty(u32, usize),
+}
+
+fn begin(lined: bool) -> State
+    ensures { λ r. ⌜ r ≡ start lined ⌝ }
+{
+    State {
+        lined,
+        line: 1,
+        first: 0,
+        count: 0,
+        inside: false,
+        value: 0,
+        fault: 0,
+    }
+}
+
+impl State {
+    fn fail(self, fault: u32) -> State
+        ensures { λ r. ⌜ r ≡ failed self fault ⌝ }
+    {
+        State {
+            lined: self.lined,
+            line: self.line,
+            first: self.first,
+            count: self.count,
+            inside: self.inside,
+            value: self.value,
+            fault,
+        }
+    }
+
+    // A digit more. 2: a number of more than 32 bits.
+    fn digit(self, d: u32) -> State
+        requires { ⌜ d < 10 ⌝ }
+        ensures { λ r. ⌜ r ≡ withDigit self d ⌝ }
+    {
+        let value = 10 * (self.value as u64) + d as u64;
+        if value > 4_294_967_295 {
+            return self.fail(2);
+        }
+        State {
+            lined: self.lined,
+            line: self.line,
+            first: self.first,
+            count: self.count,
+            inside: true,
+            value: value as u32,
+            fault: 0,
+        }
+    }
+
+    // The end of a number, if one has begun. 5: too many numbers.
+    fn close(self) -> State
+        ensures { λ r. ⌜ r ≡ closed self ⌝ }
+    {
+        if !self.inside {
+            return self;
+        }
+        if self.count >= MAX_NUMBERS {
+            return self.fail(5);
+        }
+        State {
+            lined: self.lined,
+            line: self.line,
+            first: self.first,
+            count: self.count + 1,
+            inside: false,
+            value: 0,
+            fault: 0,
+        }
+    }
+
+    // The end of a line.
+    fn end_line(self) -> State
+        requires { ⌜ StateIn self ⌝ }
+        ensures { λ r. ⌜ r ≡ lineEnded self ⌝ }
+    {
+        if self.fault != 0 {
+            return self;
+        }
+        let fault = line_fault(self.lined, self.first, self.count);
+        if fault != 0 {
+            return self.fail(fault);
+        }
+        State {
+            lined: self.lined,
+            line: self.line + 1,
+            first: self.count,
+            count: self.count,
+            inside: self.inside,
+            value: self.value,
+            fault: 0,
+        }
+    }
+
+    // A byte more. 1: neither a digit nor a space nor a newline.
+    fn step(self, byte: u8) -> State
+        requires { ⌜ StateIn self ⌝ }
+        ensures { λ r. ⌜ r ≡ step self byte ⌝ }
+    {
+        if self.fault != 0 {
+            return self;
+        }
+        if byte == b' ' {
+            return self.close();
+        }
+        if byte == b'\n' {
+            return self.close().end_line();
+        }
+        if byte < b'0' {
+            return self.fail(1);
+        }
+        if byte > b'9' {
+            return self.fail(1);
+        }
+        self.digit((byte - b'0') as u32)
+    }
+
+    // The end of the text, which ends its last line. 6: no number at all.
+    fn finish(self) -> State
+        requires { ⌜ StateIn self ⌝ }
+        ensures { λ r. ⌜ r ≡ finished self ⌝ }
+    {
+        if self.fault != 0 {
+            return self;
+        }
+        let last = self.close().end_line();
+        if last.fault != 0 {
+            return last;
+        }
+        if last.count == 0 {
+            return last.fail(6);
+        }
+        last
+    }
+}
+
+// What is wrong with the end of a line, after `first` numbers in the lines before and `count` in all.
+// 3: not one number in the first line of a list. 4: not four in a later one.
+fn line_fault(lined: bool, first: usize, count: usize) -> u32
+    requires { ⌜ first ≤ maxNumbers ⌝ }
+    ensures { λ r. ⌜ r ≡ lineFault lined first count ⌝ }
+{
+    if !lined {
+        return 0;
+    }
+    if count == first {
+        return 0;
+    }
+    if first == 0 {
+        if count == 1 {
+            return 0;
+        }
+        return 3;
+    }
+    if count == first + 4 {
+        return 0;
+    }
+    4
+}
+
+// The number that ended on the way from one state to the next, if any, put in its place.
+fn keep(numbers: &mut [u32], was: State, next: State)
+    requires { ⌜ next .count ≤ length (now numbers) ⌝ }
+    ensures { λ _. ⌜ now (numbers .exit) ≡ keptIn was next (now (numbers .entry)) ⌝ }
+{
+    let at = was.count;
+    if at < next.count {
+        numbers[at] = was.value;
+    }
+}
+
+// A byte more, with the number that it ends put in its place.
+fn turn(state: State, byte: u8, numbers: &mut [u32]) -> State
+    requires { ⌜ StateIn state × (maxNumbers ≤ length (now numbers)) ⌝ }
+    ensures { λ r. ⌜ (r ≡ step state byte) × (now (numbers .exit) ≡ keptIn state r (now (numbers .entry))) ⌝ }
+{
+    let next = state.step(byte);
+    keep(numbers, state, next);
+    next
+}
+
+// The end of the text, with the number that it ends put in its place.
+fn turn_end(state: State, numbers: &mut [u32]) -> State
+    requires { ⌜ StateIn state × (maxNumbers ≤ length (now numbers)) ⌝ }
+    ensures { λ r. ⌜ (r ≡ finished state) × (now (numbers .exit) ≡ keptIn state r (now (numbers .entry))) ⌝ }
+{
+    let next = state.finish();
+    keep(numbers, state, next);
+    next
+}
+
+// All bytes of a text, with the numbers that they end in the first places of `numbers`.
+fn walk(bytes: &[u8], lined: bool, numbers: &mut [u32]) -> State
+    requires { ⌜ (length (now bytes) ≤ textBytes) × (maxNumbers ≤ length (now numbers)) ⌝ }
+    ensures { λ r. ⌜ Walked lined (now (bytes .entry)) (now (numbers .entry)) (now (numbers .exit)) r ⌝ }
+{
+    let mut state = begin(lined);
+    let mut i = 0;
+    while i < bytes.len() {
+        state = turn(state, bytes[i], numbers);
+        i += 1;
+    }
+    state
+}
+
+// The numbers of a text, in the first places of `numbers`; later places keep their contents. Their count is returned.
+// Of a faulty text the numbers before the fault are stored, and what is wrong and the line are returned; 7: a text that is too long.
+pub fn scan(bytes: &[u8], lined: bool, numbers: &mut [u32; MAX_NUMBERS]) -> Scanned
+    ensures { λ r. ⌜ ScanAs lined (now (bytes .entry)) (now (numbers .entry)) (now (numbers .exit)) r ⌝ }
+{
+    if bytes.len() > TEXT_BYTES {
+        return Scanned::Faulty(7, 1);
+    }
+    let walked = walk(bytes, lined, numbers);
+    let last = turn_end(walked, numbers);
+    if last.fault != 0 {
+        return Scanned::Faulty(last.fault, last.line);
+    }
+    Scanned::Numbers(last.count)
+}
