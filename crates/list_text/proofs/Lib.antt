@@ -1,1 +1,2 @@
 pub mod ListTextLaws
+pub mod RoundTrip

@@ -1,4 +1,4 @@
-// A delay list as plain text, and back.
+// A delay list as plain text, and back. What `show` writes, `make` reads back to the same bytes: `proofs/RoundTrip.antt`.
 // The contracts cite `specs/ListText.antt`.
 ghost use mathlib.Core.Path.{_≡_};
 ghost use Prim.Native.Nat.{_+_, _*_, _≤_};

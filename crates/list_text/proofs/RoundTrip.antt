@@ -1,0 +1,188 @@
+-- What is shown of an accepted list is read back to the same bytes.
+use Prim.Native.Nat.{ℕ, zero, suc, _+_, _-_, _*_, _/_, _%_, _^_, _≤_, _<_}
+use mathlib.Core.Bool.{Bool, true, false, cond}
+use mathlib.Core.List.{List, [], _∷_, _++_, append-nil}
+use mathlib.Core.Path.{_≡_, refl, sym, _∙_, ap}
+use native.Mathlib.Nat.{mul-zero, mul-suc}
+use native.Mathlib.Omega.{arith}
+use lib.Dec.{ltb, eqb}
+use lib.ListN.{length, getD, drop, length-append}
+use borrow.Author.Tests.{ltb-false, eqb-true, le-ltb, eq-eqb, ne-eqb}
+use Rattle.timing.specs.Limits.{maxPairs, maxRegisters, maxDelay}
+use Rattle.buffers.specs.Run.{run}
+use Rattle.buffers.proofs.RunLaws.{run-length, run-at}
+use Rattle.words.specs.Bytes.{toWords, toBytes}
+use Rattle.refusals.specs.Reply.{done, unless}
+use Rattle.refusals.proofs.CheckLaws.{pass-both}
+use Rattle.refusals.proofs.ReplyLaws.{answered-done, one-passes}
+use Rattle.list_format.specs.Lists.{registers, pairCount, pairAt, listChecks, IsAccepted}
+use Rattle.list_format.specs.Read.{fourOf, numbersOf, readChecks, reading}
+use Rattle.list_format.specs.Write.{givenCount, writing}
+use Rattle.list_format.proofs.ListLaws.{ListIn, accepted-in, accepted→none}
+use Rattle.list_format.proofs.ReadBack.{read-back}
+use Rattle.pieces.specs.Pieces.{decimal, number, space, newline}
+use Rattle.pieces.proofs.DecimalLaws.{decimal-few}
+use Rattle.scan.specs.declared.State.{State}
+use Rattle.scan.specs.declared.Scanned.the-variants.{Numbers, Faulty}
+use Rattle.scan.specs.Scan.{maxNumbers, textBytes, start, closed, lineFault, lineEnded, someNumber, finished, kept, after, ended, last, numbersOf as numbersIn, scanned, storedOf}
+use Rattle.scan.proofs.CaseLaws.{line-next, finish-some, blank-line, pair-line}
+use Rattle.scan.proofs.ReadsLaws.{Reads, reads-none, reads-then, at, reads-space, reads-newline}
+use Rattle.list_bytes.specs.ListBytes.{maxWords, maxBytes, listOf}
+use Rattle.list_bytes.proofs.LoadLaws.{list-back}
+use Rattle.list_text.specs.ListText.{fourLine, pairLine, textOf, shownAs, shown, madeAs, madeOf, made}
+
+-- a number of at most k digits, with the byte that ends it
+short : (k n end : ℕ) → n < 10 ^ suc k → length (number n end) ≤ k + 2
+short k n end h = rw length-append (omega (arith, decimal-few k n h))
+
+same-below : (f g : ℕ → List ℕ) (k : ℕ) → ((i : ℕ) → i < k → f i ≡ g i) → run f k ≡ run g k
+unfolding run
+same-below f g zero h = refl
+same-below f g (suc k) h = rw (same-below f g k (λ i l. h i (omega arith)), h k (omega arith))
+
+few-below : (f : ℕ → List ℕ) (w k : ℕ) → ((i : ℕ) → i < k → length (f i) ≤ w) → length (run f k) ≤ w * k
+unfolding run
+few-below f w zero h = omega arith
+few-below f w (suc k) h = rw (length-append, mul-suc) (omega (arith, few-below f w k (λ i l. h i (omega arith)), h k (omega arith)))
+
+-- the line of a pair, after `count` numbers
+four-reads : (line count a b c d : ℕ) → 0 < count → count + 4 ≤ maxNumbers → a ≤ 4_294_967_295 → b ≤ 4_294_967_295 → c ≤ 4_294_967_295 → d ≤ 4_294_967_295
+    → Reads (at true line count count) (fourLine a b c d) (a ∷ b ∷ c ∷ d ∷ []) (at true (line + 1) (count + 4) (count + 4))
+four-reads line count a b c d some room ha hb hc hd =
+    let four : count + 1 + 1 + 1 + 1 ≡ count + 4 = omega arith in
+    let fit : 0 ≡ lineFault true count (count + 1 + 1 + 1 + 1) = pair-line count (count + 1 + 1 + 1 + 1) true refl (λ e. omega arith) (λ e. omega arith) four in
+    rw four at
+    (reads-then (reads-space true line count count a ha (omega arith))
+    (reads-then (reads-space true line count (count + 1) b hb (omega arith))
+    (reads-then (reads-space true line count (count + 1 + 1) c hc (omega arith))
+    (reads-newline true line count (count + 1 + 1 + 1) d hd (omega arith) fit))))
+
+-- the end of a text between two lines
+end-is : (line count : ℕ) → 0 < count → at true (line + 1) count count ≡ finished (at true line count count)
+unfolding closed
+end-is line count some =
+    let s = at true line count count in
+    let next : at true (line + 1) count count ≡ lineEnded (closed s) = line-next s refl (blank-line count count true refl refl) refl in
+    finish-some s refl next refl (λ e. omega arith)
+
+module _ (ws : List ℕ) (l : ListIn ws) where
+  fourAt : ℕ → List ℕ
+  fourAt k = fourOf (pairAt ws k)
+
+  lineAt : ℕ → List ℕ
+  lineAt k = fourLine (pairAt ws k .launch) (pairAt ws k .capture) (pairAt ws k .least) (pairAt ws k .greatest)
+
+  size : length (numbersOf ws) ≡ 4 * pairCount ws
+  size = run-length (λ k. fourOf (pairAt ws k)) 4 (λ k. refl) (pairCount ws)
+
+  count-is : givenCount (numbersOf ws) ≡ pairCount ws
+  count-is = omega (arith, size)
+
+  -- the lines of the numbers are those of the pairs
+  line-is : (k : ℕ) → k < pairCount ws → pairLine (numbersOf ws) k ≡ lineAt k
+  unfolding lineAt
+  line-is k h =
+      let nth : (j : ℕ) → j < 4 → getD (numbersOf ws) (4 * k + j) 0 ≡ getD (fourOf (pairAt ws k)) j 0 = λ j b. run-at (λ i. fourOf (pairAt ws i)) 4 (λ i. refl) (pairCount ws) k j h b in
+      let z : 4 * k + 0 ≡ 4 * k = omega arith in
+      rw (rw z at (nth 0 (omega arith)), nth 1 (omega arith), nth 2 (omega arith), nth 3 (omega arith))
+
+  text-is : textOf (registers ws) (numbersOf ws) ≡ number (registers ws) newline ++ run lineAt (pairCount ws)
+  unfolding textOf
+  text-is = rw (count-is, same-below (pairLine (numbersOf ws)) lineAt (pairCount ws) line-is)
+
+  lines-read : (k : ℕ) → k ≤ pairCount ws → Reads (at true 2 1 1) (run lineAt k) (run fourAt k) (at true (2 + k) (1 + 4 * k) (1 + 4 * k))
+  unfolding run lineAt fourAt
+  lines-read zero h = reads-none (at true 2 1 1)
+  lines-read (suc k) h =
+      let v = l .values k h in
+      let few = l .head .few in
+      let most = l .head .most in
+      let e : 1 + 4 * k + 4 ≡ 1 + 4 * suc k = omega arith in
+      let e′ : 2 + k + 1 ≡ 2 + suc k = omega arith in
+      reads-then (lines-read k (omega arith))
+      (rw (e, e′) at
+      (four-reads (2 + k) (1 + 4 * k) (pairAt ws k .launch) (pairAt ws k .capture) (pairAt ws k .least) (pairAt ws k .greatest) (omega arith) (omega arith)
+      (omega (arith, v .launch)) (omega (arith, v .capture)) (omega (arith, v .order, v .limit)) (omega (arith, v .limit))))
+
+  text-reads : Reads (start true) (textOf (registers ws) (numbersOf ws)) (registers ws ∷ numbersOf ws) (at true (2 + pairCount ws) (1 + 4 * pairCount ws) (1 + 4 * pairCount ws))
+  unfolding lineFault fourAt
+  text-reads =
+      rw text-is
+      (reads-then (reads-newline true 1 0 0 (registers ws) (omega (arith, l .head .most)) (omega arith) refl) (lines-read (pairCount ws) (omega arith)))
+
+  -- the text is not too long
+  text-short : length (textOf (registers ws) (numbersOf ws)) ≤ textBytes
+  unfolding lineAt
+  text-short =
+      let head = short 2 (registers ws) newline (omega (arith, l .head .most)) in
+      let lines = few-below lineAt 24 (pairCount ws) line-short in
+      rw (text-is, length-append) (omega (arith, l .head .few, head, lines))
+    where
+      line-short : (k : ℕ) → k < pairCount ws → length (lineAt k) ≤ 24
+      line-short k h =
+          let v = l .values k h in
+          let most = l .head .most in
+          let a = short 2 (pairAt ws k .launch) space (omega (arith, v .launch)) in
+          let b = short 2 (pairAt ws k .capture) space (omega (arith, v .capture)) in
+          let c = short 6 (pairAt ws k .least) space (omega (arith, v .order, v .limit)) in
+          let d = short 6 (pairAt ws k .greatest) newline (omega (arith, v .limit)) in
+          let A = number (pairAt ws k .launch) space in
+          let B = number (pairAt ws k .capture) space in
+          let C = number (pairAt ws k .least) space in
+          let D = number (pairAt ws k .greatest) newline in
+          omega (arith, length-append A (B ++ (C ++ D)), length-append B (C ++ D), length-append C D, a, b, c, d)
+
+  -- ---- the text read again
+
+  text : List ℕ
+  text = textOf (registers ws) (numbersOf ws)
+
+  after-is : at true (2 + pairCount ws) (1 + 4 * pairCount ws) (1 + 4 * pairCount ws) ≡ after (start true) text
+  unfolding text
+  after-is = sym (text-reads .state)
+
+  last-is : at true (2 + pairCount ws + 1) (1 + 4 * pairCount ws) (1 + 4 * pairCount ws) ≡ last true text
+  last-is = end-is (2 + pairCount ws) (1 + 4 * pairCount ws) (omega arith) ∙ ap finished after-is
+
+  scan-is : scanned true text ≡ Numbers (1 + 4 * pairCount ws)
+  unfolding scanned text
+  scan-is = rw (le-ltb textBytes (length text) text-short, ← last-is)
+
+  kept-none : kept (after (start true) text) (last true text) ≡ []
+  unfolding kept
+  kept-none = rw (← last-is, ← after-is, le-ltb (1 + 4 * pairCount ws) (1 + 4 * pairCount ws) (omega arith))
+
+  stored-is : storedOf true text ≡ registers ws ∷ numbersOf ws
+  unfolding storedOf text
+  stored-is = rw (le-ltb textBytes (length text) text-short, kept-none, append-nil, text-reads .numbers)
+
+  pub made-is : made (textOf (registers ws) (numbersOf ws)) ≡ toBytes ws (length ws)
+  unfolding madeOf madeAs text
+  made-is = rw (scan-is, stored-is, read-back ws l maxWords (omega (arith, l .head .size, l .head .few)))
+
+-- what is shown of an accepted list
+shown-is : (ws : List ℕ) → IsAccepted ws → shownAs (reading ws (4 * maxPairs)) ≡ textOf (registers ws) (numbersOf ws)
+unfolding shownAs reading
+shown-is ws a =
+    let few = accepted-in ws a .head .few in
+    let room = one-passes 2 0 (le-ltb (4 * maxPairs) (4 * pairCount ws) (omega arith)) in
+    let pass = pass-both (listChecks ws) ((ltb (4 * maxPairs) (4 * pairCount ws), 2, 0) ∷ []) (accepted→none ws a .none) room in
+    rw (answered-done (readChecks ws (4 * maxPairs)) (done (registers ws ∷ pairCount ws ∷ []) (numbersOf ws)) pass)
+
+-- the bytes of a list that is accepted are not too many, and four to a word
+counts : (bs : List ℕ) → 0 < length (listOf bs) → (length bs ≤ maxBytes) × (length bs % 4 ≡ 0)
+unfolding listOf
+counts bs = go (ltb maxBytes (length bs)) refl (eqb (length bs % 4) 0) refl
+  where
+    go : (b : Bool) → ltb maxBytes (length bs) ≡ b → (b′ : Bool) → eqb (length bs % 4) 0 ≡ b′
+        → 0 < length (cond b [] (cond b′ (toWords bs (length bs / 4)) [])) → (length bs ≤ maxBytes) × (length bs % 4 ≡ 0)
+    go true e b′ e′ h = absurd (omega arith)
+    go false e true e′ h = (ltb-false maxBytes (length bs) e, eqb-true (length bs % 4) 0 e′)
+    go false e false e′ h = absurd (omega arith)
+
+-- what is shown of the bytes of an accepted list, made into a list again, is those bytes
+pub shown-made : (bs : List ℕ) → ((i : ℕ) → getD bs i 0 < 2 ^ 8) → IsAccepted (listOf bs) → made (shown bs) ≡ bs
+shown-made bs small a =
+    let l = accepted-in (listOf bs) a in
+    let both = counts bs (omega (arith, l .head .size)) in
+    rw (shown-is (listOf bs) a) (made-is (listOf bs) l ∙ list-back bs (both .0) (both .1) small)
