@@ -97,3 +97,7 @@ bytes-front bytes (suc k) h = rw (bytes-front bytes k (omega arith), take-suc by
 pub bytes-end : {bytes was now : List ℕ} {at next k : ℕ} → Listing 1 (byteOf bytes) (length bytes) was at now next k → length bytes ≤ k → Put (length bytes) bytes was at now next
 bytes-end {bytes} l h =
     put-within (rw (bytes-front bytes (length bytes) (omega arith), take-length bytes) at (listing-end l h)) (omega arith)
+
+-- what was stored from the first place on can be lent
+pub put-lent : {w next : ℕ} {p was now : List ℕ} → Put w p was 0 now next → next ≤ length now
+put-lent put = omega (arith, put-size put, put .room, put .after)

@@ -31,6 +31,11 @@ unfoldable pub scratchAfter : Outcome → ℕ → List ℕ → List ℕ
 scratchAfter (refused number place) k scratch = scratch
 scratchAfter (done returned stored) k scratch = over (replicate k 0) scratch
 
+-- what a call comes to, put in words: by f if it is refused, by g if it is done
+unfoldable pub told : {A : Type 0} → (ℕ → ℕ → A) → (List ℕ → List ℕ → A) → Outcome → A
+told f g (refused number place) = f number place
+told f g (done returned stored) = g returned stored
+
 -- the first check that fails refuses; else the outcome
 unfoldable pub unless : Fault → Outcome → Outcome
 unless (At number place) o = refused number place
