@@ -9,7 +9,9 @@ use Rattle.check_text.proofs.put_broken.Tie as tie
 returns : tie.Need-returns
 returns c =
     let w = c .before .before .before .before .before .before in
-    pair-put (ruleNumber (c .before .before .before .before .before .before .before .before .before .before .before .before .before .before .before .before .args .rule)) (w .before .before .before .before .before .before .before .pair-at .ensures) (put-then (w .before .before .before .before .put-named .ensures) (put-then (w .put-rule .ensures) (c .before .before .put-registers .ensures))) (omega arith)
+    let v = w .before .before .before .before in
+    pair-put (ruleNumber (v .before .before .before .before .before .before .args .rule)) (v .before .before .before .pair-at .ensures)
+    (put-then (v .put-named .ensures) (put-then (w .put-rule .ensures) (c .before .before .put-registers .ensures))) (omega arith)
 
 pub put-broken-spec : {M : Type 1} → statement M
 put-broken-spec =

@@ -8,13 +8,19 @@ put-broken-requires : tie.Need-put-broken-requires
 put-broken-requires c κs = (broken-in (c .before .before .before .before .check .ensures) (c .before .before .k .given .1), search needs)
 
 returns : tie.Need-returns
-returns c = line-refused (c .before .before .before .before .before .before .before .check .ensures) (c .before .before .before .before .before .number .given .1) (c .before .before .put-refusal .ensures)
+returns c =
+    let w = c .before .before .before .before .before in
+    line-refused (w .before .before .check .ensures) (w .number .given .1) (c .before .before .put-refusal .ensures)
 
 returns-2 : tie.Need-returns-2
-returns-2 c = line-admissible (c .before .before .before .before .before .before .before .check .ensures) (c .before .before .before .before .before .enum-told .given .1) (c .before .before .put-bytes .ensures)
+returns-2 c =
+    let w = c .before .before .before .before .before in
+    line-admissible (w .before .before .check .ensures) (w .enum-told .given .1) (c .before .before .put-bytes .ensures)
 
 returns-3 : tie.Need-returns-3
-returns-3 c = line-broken (c .before .before .before .before .before .before .before .check .ensures) (c .before .before .before .before .before .k .given .1) (c .before .before .put-broken .ensures)
+returns-3 c =
+    let w = c .before .before .before .before .before in
+    line-broken (w .before .before .check .ensures) (w .k .given .1) (c .before .before .put-broken .ensures)
 
 pub put-checked-spec : {M : Type 1} → statement M
 put-checked-spec =

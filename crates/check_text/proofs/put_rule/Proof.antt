@@ -9,11 +9,15 @@ use Rattle.check_text.proofs.put_rule.Tie as tie
 
 returns : tie.Need-returns
 unfolding ruleWords ruleNumber
-returns c = rule-put (c .before .before .before .before .before .before .before .before .args .rule) (ap (λ r. ruleWords (ruleNumber r)) (c .before .before .before .before .before .enum-told .given .1)) (omega arith) (c .before .before .put-bytes .ensures)
+returns c =
+    let w = c .before .before .before .before .before in
+    rule-put (w .before .before .before .args .rule) (ap (λ r. ruleWords (ruleNumber r)) (w .enum-told .given .1)) (omega arith) (c .before .before .put-bytes .ensures)
 
 returns-2 : tie.Need-returns-2
 unfolding ruleWords ruleNumber
-returns-2 c = rule-put (c .before .before .before .before .before .before .before .before .args .rule) (ap (λ r. ruleWords (ruleNumber r)) (c .before .before .before .before .before .enum-told2 .given .1)) (omega arith) (c .before .before .put-bytes2 .ensures)
+returns-2 c =
+    let w = c .before .before .before .before .before in
+    rule-put (w .before .before .before .args .rule) (ap (λ r. ruleWords (ruleNumber r)) (w .enum-told2 .given .1)) (omega arith) (c .before .before .put-bytes2 .ensures)
 
 pub put-rule-spec : {M : Type 1} → statement M
 put-rule-spec =

@@ -1,0 +1,15 @@
+// The programs on what they refuse or find wrong, one line each: a faulty text, a list that names register 2 of 2, no split,
+// a schedule that breaks a rule, a faulty schedule, and no arguments.
+use text_programs::print_check;
+
+fn main() {
+    text_programs::make_list(os::open_read(b"faulty"));
+    text_programs::free_schedule_of(os::open_read(b"refused"));
+    text_programs::print_split(os::open_read(b"list"), 6, 4);
+    print_check(os::open_read(b"list"), 7, os::open_read(b"late"));
+    print_check(os::open_read(b"list"), 7, os::open_read(b"wide"));
+    print_check(os::open_read(b"list"), 7, os::open_read(b"word"));
+    print_check(os::open_read(b"list"), 7, os::open_read(b"short"));
+    text_programs::split_at(libc::STDIN_FILENO);
+    text_programs::check_schedule(libc::STDIN_FILENO);
+}
