@@ -39,7 +39,8 @@ foundLine ws (k ∷ rest) = brokenLine ws k (getD rest 0 0)
 unfoldable pub checkedLine : List ℕ → ℕ → List ℕ → List ℕ
 checkedLine ws period xs = told refusalLine (λ returned stored. foundLine ws returned) (checking ws period xs)
 
--- from the numbers xs of the text of a schedule: a fault in the text comes first
+-- from the numbers xs of the text of a schedule: a fault in the text comes first. Faults 3 and 4, of the lines of a list, do not occur:
+-- `no-line-fault` in scan's proofs
 unfoldable pub lineOf : List ℕ → ℕ → Scanned → List ℕ → List ℕ
 lineOf ws period (Faulty fault line) xs = faultLine fault line
 lineOf ws period (Numbers count) xs = checkedLine ws period xs
