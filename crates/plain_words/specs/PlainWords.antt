@@ -29,7 +29,7 @@ trouble fault =
     (cond (eqb fault 2) (letters " a number is above 4294967295\n")
     (cond (eqb fault 3) (letters " the first line holds one number, the count of registers\n")
     (cond (eqb fault 4) (letters " a pair takes four numbers: launch capture least greatest\n")
-    (cond (eqb fault 5) (letters " too many numbers: a list has at most 2048 pairs\n")
+    (cond (eqb fault 5) (letters " too many numbers: a text has at most 8193, enough for 2048 pairs\n")
     (cond (eqb fault 6) (letters " the text holds no number\n")
     (letters " the text is longer than 131072 bytes\n"))))))
 
