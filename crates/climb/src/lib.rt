@@ -1,21 +1,21 @@
 // The common period, the free period and the free schedule of an accepted list; the free period by trials of longer and
 // longer periods.
-// The contracts cite `specs/Trial.antt` and the laws of `free_laws`.
+// The contracts cite `specs/Climbed.antt` and the laws of `free_laws`.
 ghost use mathlib.Core.Path.{_≡_};
 ghost use Prim.Native.Nat.{_-_, _≤_, max};
-ghost use lib.ListN.{length};
 ghost use Rattle.list_format.specs.Lists.{pairCount, pairs, IsAccepted};
-ghost use Rattle.free_laws.specs.Free.{zeros, common as commonOf};
+ghost use Rattle.free_laws.specs.Free.{common as commonOf};
 ghost use Rattle.free_laws.proofs.Bound.{Bound};
 ghost use Rattle.checker.specs.Check.{Ready};
-ghost use Rattle.climb.specs.Trial.{Alone, Trial, Judged, Tried, Climbed};
-use rounds::PARENTS;
+ghost use Rattle.trials.specs.Trial.{Trial};
+ghost use Rattle.climb.specs.Climbed.{Alone, Climbed, Ascended};
+use timing::MAX_PAIRS;
 use timing::Pair;
 use timing::larger;
 use timing::less;
 
-// The parent of a register that no rule has raised.
-const NONE: u32 = 0xFFFF_FFFF;
+// Rounds of a trial before the pairs are put in another order.
+const FEW: usize = 4;
 
 // What a pair alone asks of the period. One that joins a register to itself has no times to shift.
 fn alone(p: Pair) -> u32
@@ -60,72 +60,71 @@ pub fn common(words: &[u32], count: usize) -> u32
     most
 }
 
-// All registers at 0.
-fn clear(x: &mut [u32])
-    ensures { λ _. ⌜ now (x .exit) ≡ zeros (length (now (x .entry))) ⌝ }
-{
-    let n = x.len();
-    buffers::clear(x, n);
+// What trials come to: the free period, with the free schedule, or a period that they leave undecided.
+pub enum Ascent {
+    Settled(u32),
+    Undecided(u32),
 }
 
-// What a round that raised the register `last` last tells: the period if the schedule is admissible, a longer one if
-// this is shown too short, else 0.
-fn judge(
+// Trials of longer and longer periods, by so many rounds each at most, in an order that is only a hint.
+fn ascend(
     words: &[u32],
     count: usize,
-    x: &[u32],
-    parents: &[u32; PARENTS],
-    period: u32,
-    last: usize,
-) -> u32
-    requires { ⌜ Trial (now words) count period (now x) ⌝ }
-    ensures { λ r. ⌜ Judged (now (words .entry)) period (now (x .entry)) r ⌝ }
+    x: &mut [u32],
+    order: &[usize],
+    most: usize,
+    start: u32,
+) -> Ascent
+    requires { ⌜ Trial (now words) count start (now x) ⌝ }
+    ensures { λ r. ⌜ Ascended (now (words .entry)) (now (x .exit)) r ⌝ }
 {
-    if last < x.len() {
-        let longer = cycles::cycle(words, count, x.len(), parents, last as u32);
-        if period < longer {
-            return longer;
-        }
-        return 0;
+    let mut period = start;
+    let mut next = trials::quick(words, count, x, order, most, period);
+    while period < next {
+        period = next;
+        next = trials::quick(words, count, x, order, most, period);
     }
-    if checker::passes(words, count, period, x) {
-        return period;
+    if next < period {
+        return Ascent::Undecided(period);
     }
-    0
+    Ascent::Settled(period)
 }
 
-// The period, with the least schedule in x, if there is one; else a longer period, below which there is none.
-fn trial(words: &[u32], count: usize, x: &mut [u32], period: u32) -> u32
-    requires { ⌜ Trial (now words) count period (now x) ⌝ }
-    ensures { λ r. ⌜ Tried (now (words .entry)) period (now (x .exit)) r ⌝ }
+// The same by rounds over all pairs, which leave nothing undecided.
+fn finish(words: &[u32], count: usize, x: &mut [u32], start: u32) -> u32
+    requires { ⌜ Trial (now words) count start (now x) ⌝ }
+    ensures { λ r. ⌜ Climbed (now (words .entry)) (now (x .exit)) r ⌝ }
 {
-    let mut parents = [NONE; PARENTS];
-    clear(x);
-    let mut done = 0;
-    while done < x.len() {
-        let last = rounds::round(words, count, x, &mut parents, period, done % 2 == 1);
-        let found = judge(words, count, x, &parents, period, last);
-        if period <= found {
-            return found;
-        }
-        done += 1;
+    let mut period = start;
+    let mut next = trials::steady(words, count, x, period);
+    while period < next {
+        period = next;
+        next = trials::steady(words, count, x, period);
     }
-    if checker::passes(words, count, period, x) {
-        return period;
-    }
-    period + 1
+    period
 }
 
-// The free period; the free schedule fills x.
+// The climb in the order of a walk along the pairs.
+fn ordered(words: &[u32], count: usize, x: &mut [u32], start: u32) -> u32
+    requires { ⌜ Trial (now words) count start (now x) ⌝ }
+    ensures { λ r. ⌜ Climbed (now (words .entry)) (now (x .exit)) r ⌝ }
+{
+    let mut order = [0usize; MAX_PAIRS];
+    pair_order::walked(words, count, x.len(), &mut order);
+    match ascend(words, count, x, &order, x.len(), start) {
+        Ascent::Settled(period) => period,
+        Ascent::Undecided(period) => finish(words, count, x, period),
+    }
+}
+
+// The free period; the free schedule fills x. A few rounds in the order of the list are enough for most lists.
 pub fn climb(words: &[u32], count: usize, x: &mut [u32]) -> u32
     requires { ⌜ Ready (now words) count (now x) ⌝ }
     ensures { λ r. ⌜ Climbed (now (words .entry)) (now (x .exit)) r ⌝ }
 {
-    let mut period = lowest(words, count);
-    let mut next = trial(words, count, x, period);
-    while period < next {
-        period = next;
-        next = trial(words, count, x, period);
+    let none = [0usize; 1];
+    match ascend(words, count, x, &none, FEW, lowest(words, count)) {
+        Ascent::Settled(period) => period,
+        Ascent::Undecided(period) => ordered(words, count, x, period),
     }
-    period
 }

@@ -7,7 +7,7 @@ use native.Mathlib.Omega.{arith}
 use lib.ListN.{length, set}
 use lib.Seq.{set-getD}
 use Rattle.timing.specs.declared.Pair.{Pair}
-use Rattle.timing.specs.Rules.{time, InRange}
+use Rattle.timing.specs.Rules.{time, Each, InRange}
 use Rattle.free_laws.proofs.RuleList.{Rule, Meets, setup, hold}
 use Rattle.free_laws.proofs.Sweep.{Below, set-below, ask, Reach, reach-more, Obeyed, obeyed, Round}
 use Rattle.free_laws.proofs.Rounds.{Capped}
@@ -76,6 +76,14 @@ relaxed c t p x k h =
         reach-more c x y z z (hold p) (a .up) (λ j. le-refl _) (b .reach),
       );
     })
+
+-- ---- raises one after the other
+
+-- y is x raised, past the cap nowhere, and past no times that meet the rules
+pub record Risen (c : ℕ) (rs : List Rule) (x y : List ℕ) : Type 0 where
+  pub size : length y ≡ length x
+  pub capped : Capped c y
+  pub low : (f : ℕ → ℕ) → Each (Meets f) rs → Below x f → Below y f
 
 -- ---- a round
 

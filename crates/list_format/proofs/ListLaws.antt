@@ -257,10 +257,6 @@ module _ (ws : List ℕ) where
 
 -- ---- walks up and down the list
 
-pub place-in : (m i : ℕ) (down : Bool) → i < m → placeOf m down i < m
-place-in m i true h = omega arith
-place-in m i false h = h
-
 -- what holds at every place of a walk holds of every pair
 pub each-place : (P : ℕ → Type 0) (m : ℕ) (down : Bool) → ((i : ℕ) → i < m → P (placeOf m down i)) → (k : ℕ) → k < m → P k
 each-place P m false h k l = h k l

@@ -6,7 +6,7 @@ ghost use lib.ListN.{length};
 ghost use Rattle.timing.specs.Limits.{maxDelay, maxTiming};
 ghost use Rattle.list_format.specs.Lists.{pairs};
 ghost use Rattle.free_laws.proofs.RuleList.{rules};
-ghost use Rattle.free_laws.proofs.Cap.{raiseTo, relaxTo, RoundTo};
+ghost use Rattle.free_laws.proofs.Cap.{raiseTo, relaxTo, Risen, RoundTo};
 ghost use Rattle.rounds.specs.Raise.{Raisable, Relaxable, Raising};
 use timing::Pair;
 use timing::smaller;
@@ -82,4 +82,66 @@ pub fn round(
         i += 1;
     }
     last
+}
+
+// Both rules of pair k at a period, if the list has one. The answer is that of `relax`.
+fn relax_at(
+    words: &[u32],
+    count: usize,
+    x: &mut [u32],
+    parents: &mut [u32; PARENTS],
+    period: u32,
+    k: usize,
+    last: usize,
+) -> usize
+    requires { ⌜ Raising (now words) count period (now x) ⌝ }
+    ensures { λ u. ⌜ Risen maxTiming (rules period (pairs (now (words .entry)))) (now (x .entry)) (now (x .exit)) ⌝ }
+{
+    if k < count {
+        let p = delay_list::pair_at(words, k);
+        return relax(x, parents, p, period, k, last);
+    }
+    last
+}
+
+// One round in an order that is only a hint: a pair may be left out or come twice. The answer is that of `round`.
+fn in_order(
+    words: &[u32],
+    count: usize,
+    x: &mut [u32],
+    parents: &mut [u32; PARENTS],
+    period: u32,
+    order: &[usize],
+    down: bool,
+) -> usize
+    requires { ⌜ Raising (now words) count period (now x) × (count ≤ length (now order)) ⌝ }
+    ensures { λ u. ⌜ Risen maxTiming (rules period (pairs (now (words .entry)))) (now (x .entry)) (now (x .exit)) ⌝ }
+{
+    let mut last = x.len();
+    let mut i = 0;
+    while i < count {
+        let at = delay_list::place(count, i, down);
+        last = relax_at(words, count, x, parents, period, order[at], last);
+        i += 1;
+    }
+    last
+}
+
+// One round in the order given, or in that of the list if it is too short. The answer is that of `round`.
+pub fn hinted(
+    words: &[u32],
+    count: usize,
+    x: &mut [u32],
+    parents: &mut [u32; PARENTS],
+    period: u32,
+    order: &[usize],
+    down: bool,
+) -> usize
+    requires { ⌜ Raising (now words) count period (now x) ⌝ }
+    ensures { λ u. ⌜ Risen maxTiming (rules period (pairs (now (words .entry)))) (now (x .entry)) (now (x .exit)) ⌝ }
+{
+    if order.len() < count {
+        return round(words, count, x, parents, period, down);
+    }
+    in_order(words, count, x, parents, period, order, down)
 }

@@ -15,19 +15,21 @@ loop-holds : tie.Need-loop-holds Inv-loop μ-loop
 loop-holds c = part-start (c .before .before .pre) (c .before .before .args .down)
 
 pair-at-requires : tie.Need-pair-at-requires Inv-loop μ-loop
-pair-at-requires c κs =
-    let b = c .before .before .before .before .before in
-    turn-pair (b .pre) (b .args .down) (c .before .before .loop .inv) (c .before .loop-test .taken) (c .place .ensures .0)
+pair-at-requires c κs = turn-pair (c .before .before .before .before .before .pre) (c .place .ensures .1)
 
 relax-requires : tie.Need-relax-requires Inv-loop μ-loop
 relax-requires c κs =
-    let b = c .before .before .before .before .before .before .before .before in
-    turn-ready (b .pre) (b .args .down) (c .before .before .before .before .before .loop .inv) (c .before .before .before .before .loop-test .taken) (c .before .before .before .place .ensures .0) (c .before .before .pair-at .ensures)
+    let p = c .before .before .before in
+    let l = p .before .before in
+    turn-ready (l .before .before .before .pre) (p .place .ensures .1) (l .loop .inv .risen) (c .before .before .pair-at .ensures)
 
 loop-again : tie.Need-loop-again Inv-loop μ-loop
 loop-again c =
-    let b = c .before .before .before .before .before .before .before .before .before .before .before in
-    part-turn (b .pre) (b .args .down) (c .before .before .before .before .before .before .before .before .loop .inv) (c .before .before .before .before .before .before .before .loop-test .taken) (c .before .before .before .before .before .before .place .ensures .0) (c .before .before .before .before .before .pair-at .ensures) (c .before .before .relax .ensures)
+    let a = c .before .before .before .before .before in
+    let p = a .before in
+    let l = p .before .before in
+    let b = l .before .before .before in
+    part-turn (b .pre) (b .args .down) (l .loop .inv) (p .place .ensures .1) (p .place .ensures .0) (p .before .loop-test .taken) (a .pair-at .ensures) (c .before .before .relax .ensures)
 
 returns : tie.Need-returns Inv-loop μ-loop
 returns c =

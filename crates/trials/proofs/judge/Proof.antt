@@ -2,10 +2,10 @@
 use mathlib.Core.Path.{sym, _∙_}
 use native.Mathlib.Omega.{arith}
 use Rattle.free_laws.proofs.Bound.{bound-low}
-use Rattle.climb.proofs.ClimbLaws.{trial-walks}
+use Rattle.trials.proofs.TrialLaws.{trial-walks}
 use borrow.Author.Needs.{needs}
-use Rattle.climb.proofs.judge.Statement.{statement}
-use Rattle.climb.proofs.judge.Tie as tie
+use Rattle.trials.proofs.judge.Statement.{statement}
+use Rattle.trials.proofs.judge.Tie as tie
 
 cycle-requires : tie.Need-cycle-requires
 cycle-requires c κs =

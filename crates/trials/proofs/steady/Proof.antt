@@ -1,12 +1,12 @@
--- `trial`: rounds from all zero, until they settle, a cycle is found, or there were as many as registers.
+-- `steady`: rounds from all zero, until they settle, a cycle is found, or there were as many as registers.
 use Prim.Native.Nat.{_-_}
 use mathlib.Core.Path.{sym, _∙_}
 use native.Mathlib.Omega.{arith}
 use Rattle.list_format.specs.Lists.{registers}
-use Rattle.climb.proofs.ClimbLaws.{Trying, trying-start, trying-raises, trying-turn, trying-judges, trying-told, trying-passed, trying-failed, trying-limit}
+use Rattle.trials.proofs.TrialLaws.{trial-limit, under-raises, under-judges, under-told, Trying, trying-under, trying-start, trying-turn, trying-passed, trying-failed}
 use borrow.Author.Needs.{needs}
-use Rattle.climb.proofs.trial.Statement.{statement}
-use Rattle.climb.proofs.trial.Tie as tie
+use Rattle.trials.proofs.steady.Statement.{statement}
+use Rattle.trials.proofs.steady.Tie as tie
 
 abbrev Inv-loop : tie.InvT-loop
 Inv-loop words count x₀ period parents₀ done₀ x parents done = Trying words period x done
@@ -18,12 +18,12 @@ loop-holds : tie.Need-loop-holds Inv-loop μ-loop
 loop-holds c = trying-start (c .before .before .before .before .before .before .pre) (c .before .before .clear .ensures)
 
 round-requires : tie.Need-round-requires Inv-loop μ-loop
-round-requires c κs = trying-raises (c .before .before .before .before .before .before .before .before .before .before .pre) (c .before .before .before .loop .inv)
+round-requires c κs = under-raises (c .before .before .before .before .before .before .before .before .before .before .pre) (trying-under (c .before .before .before .loop .inv))
 
 judge-requires : tie.Need-judge-requires Inv-loop μ-loop
 judge-requires c κs =
     let p = c .before .before .before .before .before .before .before .before .before .before .before .before .before .before .before .pre in
-    trying-judges p (trying-turn p (c .before .before .before .before .before .before .before .before .loop .inv) (c .before .before .before .before .round .ensures))
+    under-judges p (trying-under (trying-turn p (c .before .before .before .before .before .before .before .before .loop .inv) (c .before .before .before .before .round .ensures)))
 
 same-length : tie.Need-same-length Inv-loop μ-loop
 same-length c =
@@ -33,7 +33,7 @@ same-length c =
 returns : tie.Need-returns Inv-loop μ-loop
 returns c =
     let p = c .before .before .before .before .before .before .before .before .before .before .before .before .before .before .before .before .before .pre in
-    trying-told p (trying-turn p (c .before .before .before .before .before .before .before .before .before .before .loop .inv) (c .before .before .before .before .before .before .round .ensures)) (c .before .judge .ensures) (c .if1 .taken)
+    under-told p (trying-under (trying-turn p (c .before .before .before .before .before .before .before .before .before .before .loop .inv) (c .before .before .before .before .before .before .round .ensures))) (c .before .judge .ensures) (c .if1 .taken)
 
 loop-less : tie.Need-loop-less Inv-loop μ-loop
 loop-less c = omega (arith, c .before .before .before .before .before .before .before .before .before .before .loop .inv .rounds .size, c .before .before .before .before .before .before .before .before .before .loop-test .taken)
@@ -42,7 +42,7 @@ loop-again : tie.Need-loop-again Inv-loop μ-loop
 loop-again c = trying-turn (c .before .before .before .before .before .before .before .before .before .before .before .before .before .before .before .before .before .pre) (c .before .before .before .before .before .before .before .before .before .before .loop .inv) (c .before .before .before .before .before .before .round .ensures)
 
 passes-requires : tie.Need-passes-requires Inv-loop μ-loop
-passes-requires c κs = trying-judges (c .before .before .before .before .before .before .before .before .before .pre) (c .before .before .loop .inv) .ready
+passes-requires c κs = under-judges (c .before .before .before .before .before .before .before .before .before .pre) (trying-under (c .before .before .loop .inv)) .ready
 
 same-length-2 : tie.Need-same-length-2 Inv-loop μ-loop
 same-length-2 c = c .before .before .before .before .loop .inv .rounds .size ∙ sym (c .before .before .before .before .before .before .before .before .before .before .before .pre .ready .timed)
@@ -51,7 +51,7 @@ returns-2 : tie.Need-returns-2 Inv-loop μ-loop
 returns-2 c = trying-passed (c .before .before .before .before .before .before .before .before .before .before .before .pre) (c .before .before .before .before .loop .inv) (c .before .before .before .loop-test .left) (sym (c .before .passes .ensures) ∙ c .if2 .taken)
 
 add-result : tie.Need-add-result Inv-loop μ-loop
-add-result c = omega (arith, trying-limit (c .before .before .before .before .before .before .before .before .before .before .before .pre))
+add-result c = omega (arith, trial-limit (c .before .before .before .before .before .before .before .before .before .before .before .pre))
 
 same-length-3 : tie.Need-same-length-3 Inv-loop μ-loop
 same-length-3 c = c .before .before .before .before .loop .inv .rounds .size ∙ sym (c .before .before .before .before .before .before .before .before .before .before .before .pre .ready .timed)
@@ -59,8 +59,8 @@ same-length-3 c = c .before .before .before .before .loop .inv .rounds .size ∙
 returns-3 : tie.Need-returns-3 Inv-loop μ-loop
 returns-3 c = trying-failed (c .before .before .before .before .before .before .before .before .before .before .before .pre) (c .before .before .before .before .loop .inv) (c .before .before .before .loop-test .left) (sym (c .before .passes .ensures) ∙ c .if2 .left)
 
-pub trial-spec : {M : Type 1} → statement M
-trial-spec =
+pub steady-spec : {M : Type 1} → statement M
+steady-spec =
     tie.close
     (tie.spec
     Inv-loop μ-loop (λ c κs. search needs) loop-holds round-requires judge-requires same-length returns

@@ -1,8 +1,8 @@
 -- All places of x are cleared.
-use Rattle.climb.proofs.ClimbLaws.{all-cleared}
+use Rattle.trials.proofs.TrialLaws.{all-cleared}
 use borrow.Author.Needs.{needs}
-use Rattle.climb.proofs.clear.Statement.{statement}
-use Rattle.climb.proofs.clear.Tie as tie
+use Rattle.trials.proofs.clear.Statement.{statement}
+use Rattle.trials.proofs.clear.Tie as tie
 
 returns : tie.Need-returns
 returns c = all-cleared (c .before .before .before .before .before .args .x .now) (c .before .before .clear .ensures)

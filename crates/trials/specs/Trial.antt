@@ -1,20 +1,14 @@
 -- A trial of a period: what it asks for and what it tells.
-use Prim.Native.Nat.{ℕ, _+_, _≤_}
+use Prim.Native.Nat.{ℕ, _≤_}
 use mathlib.Core.Bool.{true}
 use mathlib.Core.List.{List}
 use mathlib.Core.Path.{_≡_}
-use Rattle.timing.specs.declared.Pair.{Pair}
 use Rattle.timing.specs.Rules.{admissible}
 use Rattle.list_format.specs.Lists.{registers, pairs}
-use Rattle.free_laws.specs.Free.{freePeriod, freeSchedule}
 use Rattle.free_laws.proofs.RuleList.{rules}
 use Rattle.free_laws.proofs.Least.{Least}
 use Rattle.free_laws.proofs.Bound.{Bound}
 use Rattle.checker.specs.Check.{Ready}
-
--- r is no more than any period at which the pair alone can meet its rules, with launch time a and capture time b
-pub record Alone (p : Pair) (r : ℕ) : Type 0 where
-  pub under : (u a b : ℕ) → (p .launch ≡ p .capture → a ≡ b) → a + p .greatest ≤ b + u → b ≤ a + p .least → r ≤ u
 
 -- an accepted list with places for a schedule, and no schedule at a period shorter than t
 pub record Trial (ws : List ℕ) (count t : ℕ) (x : List ℕ) : Type 0 where
@@ -33,7 +27,6 @@ pub record Tried (ws : List ℕ) (t : ℕ) (x : List ℕ) (r : ℕ) : Type 0 whe
   pub bound : Bound (pairs ws) r
   pub shows : r ≡ t → Least (rules t (pairs ws)) (registers ws) x
 
--- the free period, with the free schedule
-pub record Climbed (ws : List ℕ) (x : List ℕ) (r : ℕ) : Type 0 where
-  pub period : r ≡ freePeriod (registers ws) (pairs ws)
-  pub schedule : x ≡ freeSchedule (registers ws) (pairs ws)
+-- told after an attempt at a trial: t or more only as after the trial itself
+pub record Sought (ws : List ℕ) (t : ℕ) (x : List ℕ) (r : ℕ) : Type 0 where
+  pub tried : t ≤ r → Tried ws t x r
