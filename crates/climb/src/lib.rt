@@ -15,7 +15,7 @@ use timing::larger;
 use timing::less;
 
 // Rounds of a trial before the pairs are put in another order.
-const FEW: usize = 4;
+const FEW: usize = 7;
 
 // What a pair alone asks of the period. One that joins a register to itself has no times to shift.
 fn alone(p: Pair) -> u32
