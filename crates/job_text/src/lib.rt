@@ -6,10 +6,12 @@ ghost use lib.ListN.{length};
 ghost use mathlib.Core.List.{_++_};
 ghost use Rattle.timing.specs.Limits.{maxRegisters, maxPairs, scratchPlaces};
 ghost use Rattle.pieces.specs.Pieces.{Put, letters, number, space, newline};
+ghost use Rattle.refusals.specs.Reply.{told};
 ghost use Rattle.list_format.specs.Lists.{registers};
+ghost use Rattle.plain_words.specs.PlainWords.{refusalLine};
 ghost use Rattle.free_schedule.specs.FreeCall.{freeing};
 ghost use Rattle.split.specs.Splitting.{splitting};
-ghost use Rattle.job_text.specs.JobText.{timingLines, textBy, jobPlaces, periodsLine, freeDone, freeText, splitDone, splitText};
+ghost use Rattle.job_text.specs.JobText.{timingLines, jobPlaces, periodsLine, freeDone, freeText, splitDone, splitText};
 use free_schedule::FreeAnswer;
 use list_bytes::MAX_WORDS;
 use pieces::put_bytes;
@@ -62,7 +64,7 @@ fn put_free(text: &mut [u8], common: u32, free: u32, timings: &[u32], n: usize) 
 // The free schedule for a run of words.
 fn put_free_words(text: &mut [u8], words: &[u32]) -> usize
     requires { ⌜ jobPlaces ≤ length (now text) ⌝ }
-    ensures { λ z. ⌜ Put jobPlaces (textBy (freeDone (registers (now (words .entry)))) (freeing (now (words .entry)) maxRegisters)) (now (text .entry)) 0 (now (text .exit)) z ⌝ }
+    ensures { λ z. ⌜ Put jobPlaces (told refusalLine (freeDone (registers (now (words .entry)))) (freeing (now (words .entry)) maxRegisters)) (now (text .entry)) 0 (now (text .exit)) z ⌝ }
 {
     let mut answer = [0u32; REGISTER_PLACES];
     match free_schedule::free(words, &mut answer) {
@@ -96,7 +98,7 @@ fn put_split(text: &mut [u8], timings: &[u32], n: usize) -> usize
 // The split for a run of words.
 fn put_split_words(text: &mut [u8], words: &[u32], period: u32, offset: u32) -> usize
     requires { ⌜ jobPlaces ≤ length (now text) ⌝ }
-    ensures { λ z. ⌜ Put jobPlaces (textBy (splitDone (registers (now (words .entry)))) (splitting (now (words .entry)) period offset maxRegisters (scratchPlaces maxRegisters maxPairs))) (now (text .entry)) 0 (now (text .exit)) z ⌝ }
+    ensures { λ z. ⌜ Put jobPlaces (told refusalLine (splitDone (registers (now (words .entry)))) (splitting (now (words .entry)) period offset maxRegisters (scratchPlaces maxRegisters maxPairs))) (now (text .entry)) 0 (now (text .exit)) z ⌝ }
 {
     let mut answer = [0u32; REGISTER_PLACES];
     let mut scratch = [0u32; SCRATCH_PLACES];

@@ -1,20 +1,15 @@
 -- The words in the first places of a buffer.
 use Prim.Native.Nat.{ℕ, _*_, _/_, _%_, _^_, _≤_, _<_}
-use mathlib.Core.List.{List, [], _∷_}
-use mathlib.Core.Path.{_≡_, refl, _∙_}
-use native.Mathlib.Nat.{one-mul}
+use mathlib.Core.List.{List, []}
+use mathlib.Core.Path.{_≡_}
 use native.Mathlib.Omega.{arith}
-use lib.ListN.{length, take, drop, getD}
-use lib.Seq.{take-at}
+use lib.ListN.{length, getD}
 use borrow.Author.Tests.{lt-ltb, le-ltb, eq-eqb, ne-eqb}
 use Rattle.buffers.specs.Over.{over}
-use Rattle.buffers.proofs.RunLaws.{run-length}
-use Rattle.words.specs.Bytes.{wordAt, toWords, toBytes}
-use Rattle.words.proofs.BytesLaws.{bytes-back}
+use Rattle.buffers.proofs.FillLaws.{filled-front}
+use Rattle.words.specs.Bytes.{toWords, toBytes}
+use Rattle.words.proofs.BytesLaws.{words-size, bytes-back}
 use Rattle.list_bytes.specs.ListBytes.{maxBytes, maxWords, listOf, LoadedAs}
-
-words-size : (bs : List ℕ) (k : ℕ) → length (toWords bs k) ≡ k
-words-size bs k = run-length (λ i. wordAt bs i ∷ []) 1 (λ i. refl) k ∙ one-mul k
 
 module _ (bs : List ℕ) where
   pub load-long : (now : List ℕ) → maxBytes < length bs → LoadedAs bs now 0
@@ -36,7 +31,7 @@ module _ (bs : List ℕ) where
       record {
         room = room;
         most = omega arith;
-        words = rw (list-even h even, e) (take-at (toWords bs (length bs / 4)) (drop (length (toWords bs (length bs / 4))) was) (length bs / 4) (words-size bs (length bs / 4)));
+        words = rw (list-even h even) (filled-front (toWords bs (length bs / 4)) was now (length bs / 4) (words-size bs (length bs / 4)) e);
       }
 
   -- the bytes of the words are the bytes
