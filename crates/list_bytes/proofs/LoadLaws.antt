@@ -1,9 +1,10 @@
 -- The words in the first places of a buffer.
 use Prim.Native.Nat.{ℕ, _*_, _/_, _%_, _^_, _≤_, _<_}
 use mathlib.Core.List.{List, []}
-use mathlib.Core.Path.{_≡_}
+use mathlib.Core.Path.{_≡_, sym}
 use native.Mathlib.Omega.{arith}
-use lib.ListN.{length, getD}
+use lib.ListN.{length, getD, take}
+use lib.Seq.{length-take-le}
 use borrow.Author.Tests.{lt-ltb, le-ltb, eq-eqb, ne-eqb}
 use Rattle.buffers.specs.Over.{over}
 use Rattle.buffers.proofs.FillLaws.{filled-front}
@@ -33,6 +34,10 @@ module _ (bs : List ℕ) where
         most = omega arith;
         words = rw (list-even h even) (filled-front (toWords bs (length bs / 4)) was now (length bs / 4) (words-size bs (length bs / 4)) e);
       }
+
+  -- the words can be lent
+  pub loaded-size : {now : List ℕ} {count : ℕ} → LoadedAs bs now count → count ≡ length (take count now)
+  loaded-size {now} {count} l = sym (length-take-le count now (l .room))
 
   -- the bytes of the words are the bytes
   pub list-back : length bs ≤ maxBytes → length bs % 4 ≡ 0 → ((i : ℕ) → getD bs i 0 < 2 ^ 8) → toBytes (listOf bs) (length (listOf bs)) ≡ bs

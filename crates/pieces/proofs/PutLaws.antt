@@ -53,10 +53,6 @@ module _ {w : ℕ} {p was now : List ℕ} {at next : ℕ} (a : Put w p was at no
   pub put-within : {v : ℕ} → length p ≤ v → Put v p was at now next
   put-within h = record { most = h; room = a .room; after = a .after; is = a .is }
 
--- a buffer filled from its first place on
-pub put-over : {w : ℕ} {p was now : List ℕ} {next : ℕ} → Put w p was 0 now next → now ≡ over p was
-put-over a = a .is
-
 -- ---- a loop that stores piece after piece, each of at most w bytes
 
 -- k of m pieces are stored
@@ -99,5 +95,9 @@ bytes-end {bytes} l h =
     put-within (rw (bytes-front bytes (length bytes) (omega arith), take-length bytes) at (listing-end l h)) (omega arith)
 
 -- what was stored from the first place on can be lent
-pub put-lent : {w next : ℕ} {p was now : List ℕ} → Put w p was 0 now next → next ≤ length now
-put-lent put = omega (arith, put-size put, put .room, put .after)
+module _ {w next : ℕ} {p was now : List ℕ} (put : Put w p was 0 now next) where
+  pub put-lent : next ≤ length now
+  put-lent = omega (arith, put-size put, put .room, put .after)
+
+  pub lent-size : next ≡ length (take next now)
+  lent-size = sym (length-take-le next now put-lent)

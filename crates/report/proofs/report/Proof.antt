@@ -1,13 +1,9 @@
 -- The words of the bytes, and then their text.
-use mathlib.Core.Path.{sym}
-use lib.Seq.{length-take-le}
+use Rattle.list_bytes.proofs.LoadLaws.{loaded-size}
 use Rattle.report.specs.Report.{report}
 use borrow.Author.Needs.{needs}
 use Rattle.report.proofs.report.Statement.{statement}
 use Rattle.report.proofs.report.Tie as tie
-
-slice-aggregate-put-text : tie.Need-slice-aggregate-put-text
-slice-aggregate-put-text c = sym (length-take-le _ _ (c .before .before .load .ensures .room))
 
 returns : tie.Need-returns
 unfolding report
@@ -19,6 +15,6 @@ report-spec =
     (tie.spec
     (λ c κs. search needs)
     (λ c. search needs)
-    slice-aggregate-put-text
+    (λ c. loaded-size _ (c .before .before .load .ensures))
     (λ c κs. search needs)
     returns)
