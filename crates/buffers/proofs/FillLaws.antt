@@ -82,8 +82,12 @@ module _ {before : List ℕ} {f : ℕ → List ℕ} {m : ℕ} {was now : List �
         record { bound = omega arith; filled = rw (add-one, ← append-assoc before (run f k) (f k)) (filled-put (h .filled) (f k) after place fits put) }
 
 -- the first places of a buffer that was filled
-pub filled-front : (xs was now : List ℕ) (k : ℕ) → length xs ≡ k → now ≡ over xs was → take k now ≡ xs
-filled-front xs was now k size e = rw e (take-at xs (drop (length xs) was) k size)
+module _ (xs was : List ℕ) {now : List ℕ} {k : ℕ} (size : length xs ≡ k) (e : now ≡ over xs was) where
+  pub filled-front : take k now ≡ xs
+  filled-front = rw e (take-at xs (drop (length xs) was) k size)
+
+  pub filled-fits : k ≤ length now
+  filled-fits = rw (e, length-append) (omega (arith, size))
 
 -- a store in the first place, and then what follows it
 pub over-first : (was xs : List ℕ) (v : ℕ) → 0 < length was → over (take 1 (set was 0 v) ++ xs) (set was 0 v) ≡ over (v ∷ xs) was

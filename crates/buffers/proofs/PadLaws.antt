@@ -3,13 +3,10 @@ use Prim.Native.Nat.{ℕ, zero, suc, _+_, _<_}
 use mathlib.Core.List.{List, [], _∷_, _++_}
 use mathlib.Core.Path.{_≡_, refl, _∙_}
 use native.Mathlib.Omega.{arith}
-use lib.ListN.{length, getD, drop, replicate, length-replicate}
+use lib.ListN.{length, getD, drop, length-replicate}
 use lib.Seq.{getD-drop}
 use Rattle.buffers.specs.Run.{run}
-use Rattle.buffers.specs.Over.{over}
-
-abbrev pub zeros : ℕ → List ℕ
-zeros k = replicate k 0
+use Rattle.buffers.specs.Over.{over, zeros}
 
 pub zeros-size : (k : ℕ) → length (zeros k) ≡ k
 zeros-size k = length-replicate {A = ℕ} k 0

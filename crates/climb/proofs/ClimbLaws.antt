@@ -13,7 +13,8 @@ use Rattle.timing.specs.Rules.{admissible, Each, InRange}
 use Rattle.timing.specs.Limits.{maxDelay, maxPeriod, maxTiming}
 use Rattle.list_format.specs.Lists.{registers, pairCount, pairAt, pairsFrom, pairs, IsAccepted, IsPair}
 use Rattle.list_format.proofs.ListLaws.{accepted-in, pairs-in-range, pairs-within}
-use Rattle.free_laws.specs.Free.{zeros, common}
+use Rattle.buffers.specs.Over.{zeros}
+use Rattle.free_laws.specs.Free.{common}
 use Rattle.free_laws.proofs.RuleList.{Meets, rules, within, admissible→meets, meets→admissible}
 use Rattle.free_laws.proofs.Lists.{each-map}
 use Rattle.free_laws.proofs.Sweep.{zeros-below}

@@ -4,8 +4,9 @@
 ghost use mathlib.Core.Path.{_≡_};
 ghost use Prim.Native.Nat.{_-_, _≤_, max};
 ghost use lib.ListN.{length};
+ghost use Rattle.buffers.specs.Over.{zeros};
 ghost use Rattle.list_format.specs.Lists.{pairCount, pairs, IsAccepted};
-ghost use Rattle.free_laws.specs.Free.{zeros, common as commonOf};
+ghost use Rattle.free_laws.specs.Free.{common as commonOf};
 ghost use Rattle.free_laws.proofs.Bound.{Bound};
 ghost use Rattle.checker.specs.Check.{Ready};
 ghost use Rattle.climb.specs.Trial.{Alone, Trial, Judged, Tried, Climbed};

@@ -3,9 +3,9 @@ use Prim.Native.Nat.{ℕ, _+_, _*_, _≤_}
 use mathlib.Core.List.{List, [], _∷_, _++_}
 use mathlib.Core.Path.{_≡_, _∙_}
 use native.Mathlib.Omega.{arith}
-use Rattle.timing.specs.Limits.{maxRegisters, maxPairs, scratchPlaces}
-use Rattle.buffers.specs.Over.{over}
-use Rattle.buffers.proofs.PadLaws.{zeros, zeros-size, over-zeros, run-same}
+use Rattle.timing.specs.Limits.{maxRegisters, maxScratch}
+use Rattle.buffers.specs.Over.{over, zeros}
+use Rattle.buffers.proofs.PadLaws.{zeros-size, over-zeros, run-same}
 use Rattle.refusals.specs.Reply.{numbers, Outcome, replyOf, bufferAfter, told}
 use Rattle.refusals.proofs.ReplyLaws.{told-refusal, told-numbers}
 use Rattle.list_format.specs.Lists.{registers, pairCount}
@@ -66,17 +66,13 @@ module _ {ws now : List ℕ} {r : FreeAnswer} (a : FreeAs ws (zeros maxRegisters
 split-same : (n k : ℕ) (xs ys : List ℕ) → splitDone n xs (over ys (zeros k)) ≡ splitDone n xs ys
 split-same n k xs ys = rw (lines-over n k ys)
 
--- the places of scratch that the largest list takes
-abbrev spare : ℕ
-spare = scratchPlaces maxRegisters maxPairs
-
 -- the call with room for the largest list
 abbrev splitOf : List ℕ → ℕ → ℕ → Outcome
-splitOf ws t s = splitting ws t s maxRegisters spare
+splitOf ws t s = splitting ws t s maxRegisters maxScratch
 
-module _ {ws now scratch′ : List ℕ} {t s : ℕ} {r : Splitting} (a : SplitAs ws t s (zeros maxRegisters) now (zeros spare) scratch′ r) where
+module _ {ws now scratch′ : List ℕ} {t s : ℕ} {r : Splitting} (a : SplitAs ws t s (zeros maxRegisters) now (zeros maxScratch) scratch′ r) where
   split-reply : splitReply r ≡ replyOf (splitOf ws t s)
-  split-reply = rw (zeros-size maxRegisters, zeros-size spare) at (a .reply)
+  split-reply = rw (zeros-size maxRegisters, zeros-size maxScratch) at (a .reply)
 
   pub split-refused : {number place next : ℕ} {text text′ : List ℕ} → r ≡ NotSplit number place → Put 133 (refusalLine number place) text 0 text′ next
       → Put jobPlaces (told refusalLine (splitDone (registers ws)) (splitOf ws t s)) text 0 text′ next
@@ -86,7 +82,7 @@ module _ {ws now scratch′ : List ℕ} {t s : ℕ} {r : Splitting} (a : SplitAs
 
   split-by : {xs : List ℕ} → numbers xs ≡ splitReply r → told refusalLine (splitDone (registers ws)) (splitOf ws t s) ≡ splitDone (registers ws) xs now
   split-by e =
-      let stored : now ≡ bufferAfter (splitOf ws t s) (zeros maxRegisters) = rw (zeros-size maxRegisters, zeros-size spare) at (a .stored) in
+      let stored : now ≡ bufferAfter (splitOf ws t s) (zeros maxRegisters) = rw (zeros-size maxRegisters, zeros-size maxScratch) at (a .stored) in
       rw stored (told-numbers refusalLine (splitDone (registers ws)) (zeros maxRegisters) (split-same (registers ws) maxRegisters) (splitOf ws t s) (e ∙ split-reply))
 
   pub split-none : {next : ℕ} {text text′ : List ℕ} → r ≡ NoSplit → Put 9 (letters "no split\n") text 0 text′ next
@@ -101,7 +97,7 @@ module _ {ws now scratch′ : List ℕ} {t s : ℕ} {r : Splitting} (a : SplitAs
 
     pub split-in : HeadIn ws
     unfolding splitting
-    split-in = numbers-in ws (callChecks (registers ws) (pairCount ws) t s maxRegisters spare) _ (split-told ∙ split-reply) .head
+    split-in = numbers-in ws (callChecks (registers ws) (pairCount ws) t s maxRegisters maxScratch) _ (split-told ∙ split-reply) .head
 
     pub split-found : {n next : ℕ} {text text′ : List ℕ} → n ≡ registers ws → Put (6 + 42 * n) (letters "split\n" ++ timingLines n now) text 0 text′ next
         → Put jobPlaces (told refusalLine (splitDone (registers ws)) (splitOf ws t s)) text 0 text′ next

@@ -4,7 +4,7 @@ use mathlib.Core.Bool.{cond}
 use mathlib.Core.List.{List, _++_}
 use lib.Dec.{eqb}
 use lib.ListN.{getD}
-use Rattle.timing.specs.Limits.{maxRegisters, maxPairs, scratchPlaces}
+use Rattle.timing.specs.Limits.{maxRegisters, maxScratch}
 use Rattle.buffers.specs.Run.{run}
 use Rattle.refusals.specs.Reply.{told}
 use Rattle.list_format.specs.Lists.{registers}
@@ -48,4 +48,4 @@ splitDone n returned stored = cond (eqb (getD returned 0 0) 0) (letters "no spli
 -- the text for the bytes of a list
 abbrev pub splitText : List ℕ → ℕ → ℕ → List ℕ
 splitText bs period offset =
-    told refusalLine (splitDone (registers (listOf bs))) (splitting (listOf bs) period offset maxRegisters (scratchPlaces maxRegisters maxPairs))
+    told refusalLine (splitDone (registers (listOf bs))) (splitting (listOf bs) period offset maxRegisters maxScratch)

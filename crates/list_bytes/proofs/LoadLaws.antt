@@ -1,6 +1,6 @@
 -- The words in the first places of a buffer.
-use Prim.Native.Nat.{ℕ, _*_, _/_, _%_, _^_, _≤_, _<_}
-use mathlib.Core.List.{List, []}
+use Prim.Native.Nat.{ℕ, _/_, _%_, _^_, _≤_, _<_}
+use mathlib.Core.List.{List}
 use mathlib.Core.Path.{_≡_, sym}
 use native.Mathlib.Omega.{arith}
 use lib.ListN.{length, getD, take}
@@ -10,7 +10,7 @@ use Rattle.buffers.specs.Over.{over}
 use Rattle.buffers.proofs.FillLaws.{filled-front}
 use Rattle.words.specs.Bytes.{toWords, toBytes}
 use Rattle.words.proofs.BytesLaws.{words-size, bytes-back}
-use Rattle.list_bytes.specs.ListBytes.{maxBytes, maxWords, listOf, LoadedAs}
+use Rattle.list_bytes.specs.ListBytes.{maxBytes, listOf, LoadedAs}
 
 module _ (bs : List ℕ) where
   pub load-long : (now : List ℕ) → maxBytes < length bs → LoadedAs bs now 0
@@ -32,7 +32,7 @@ module _ (bs : List ℕ) where
       record {
         room = room;
         most = omega arith;
-        words = rw (list-even h even) (filled-front (toWords bs (length bs / 4)) was now (length bs / 4) (words-size bs (length bs / 4)) e);
+        words = rw (list-even h even) (filled-front (toWords bs (length bs / 4)) was (words-size bs (length bs / 4)) e);
       }
 
   -- the words can be lent

@@ -4,18 +4,18 @@ use mathlib.Core.Bool.{true}
 use mathlib.Core.List.{List, [], _∷_}
 use mathlib.Core.Path.{_≡_, refl, sym, _∙_}
 use native.Mathlib.Omega.{arith}
-use lib.ListN.{length, length-append, getD, take, drop}
+use lib.ListN.{length, getD, take, drop}
 use lib.Seq.{take-at}
 use Rattle.timing.specs.Limits.{maxPairs}
-use Rattle.buffers.specs.Over.{over}
-use Rattle.buffers.proofs.FillLaws.{filled-front}
-use Rattle.buffers.proofs.PadLaws.{zeros, zeros-size}
+use Rattle.buffers.specs.Over.{over, zeros}
+use Rattle.buffers.proofs.FillLaws.{filled-front, filled-fits}
+use Rattle.buffers.proofs.PadLaws.{zeros-size}
 use Rattle.words.specs.Bytes.{toBytes}
 use Rattle.words.proofs.BytesLaws.{bytes-size}
 use Rattle.refusals.specs.Checks.{firstFault}
 use Rattle.refusals.specs.Reply.{numbers, done, replyOf, bufferAfter, told}
 use Rattle.refusals.specs.declared.Fault.the-variants.{None}
-use Rattle.refusals.proofs.ReplyLaws.{answered-done, numbers-none, told-refusal}
+use Rattle.refusals.proofs.ReplyLaws.{answered-done, numbers-none, numbers-done, told-refusal}
 use Rattle.list_format.specs.Lists.{registers, pairCount, pairPlace}
 use Rattle.list_format.specs.Read.{numbersOf, readChecks, reading, readReply}
 use Rattle.list_format.specs.Write.{givenCount, wordsOf, writeChecks, writing, writeReply}
@@ -52,13 +52,9 @@ module _ {ws now : List ℕ} {r : Reading} (a : ReadAs ws (zeros (4 * maxPairs))
     unfolding readReply
     read-told = rw e at reply
 
-    none : firstFault (readChecks ws (4 * maxPairs)) ≡ None
-    unfolding reading
-    none = numbers-none (firstFault (readChecks ws (4 * maxPairs))) (done (registers ws ∷ pairCount ws ∷ []) (numbersOf ws)) read-told
-
     is : reading ws (4 * maxPairs) ≡ done (registers ws ∷ pairCount ws ∷ []) (numbersOf ws)
     unfolding reading
-    is = answered-done (readChecks ws (4 * maxPairs)) (done (registers ws ∷ pairCount ws ∷ []) (numbersOf ws)) none
+    is = numbers-done (readChecks ws (4 * maxPairs)) (done (registers ws ∷ pairCount ws ∷ []) (numbersOf ws)) read-told
 
     same : numbers (n ∷ m ∷ []) ≡ numbers (registers ws ∷ pairCount ws ∷ [])
     unfolding replyOf
@@ -74,9 +70,22 @@ module _ {ws now : List ℕ} {r : Reading} (a : ReadAs ws (zeros (4 * maxPairs))
     unfolding reading
     read-few = rw pairs-are (numbers-in ws _ _ read-told .head .few)
 
-    numbers-are : take (4 * m) now ≡ numbersOf ws
+    count-size : length (numbersOf ws) ≡ 4 * m
+    count-size = rw (numbers-length ws, pairs-are)
+
+    numbers-stored : now ≡ over (numbersOf ws) (zeros (4 * maxPairs))
     unfolding bufferAfter
-    numbers-are = filled-front (numbersOf ws) (zeros (4 * maxPairs)) now (4 * m) (rw (numbers-length ws, pairs-are)) (rw (zeros-size (4 * maxPairs), is) at (a .buffer))
+    numbers-stored = rw (zeros-size (4 * maxPairs), is) at (a .buffer)
+
+    numbers-are : take (4 * m) now ≡ numbersOf ws
+    numbers-are = filled-front (numbersOf ws) (zeros (4 * maxPairs)) count-size numbers-stored
+
+    -- the numbers can be lent
+    pub read-room : 4 * m ≤ length now
+    read-room = filled-fits (numbersOf ws) (zeros (4 * maxPairs)) count-size numbers-stored
+
+    pub read-size : 4 * m ≡ length (take (4 * m) now)
+    read-size = rw numbers-are (sym count-size)
 
     pub show-read : {next : ℕ} {text text′ : List ℕ} → Put (84 * maxPairs + 21) (textOf n (take (4 * m) now)) text 0 text′ next
         → Put (84 * maxPairs + 133) (told refusalLine shownDone (reading ws (4 * maxPairs))) text 0 text′ next
@@ -123,16 +132,29 @@ module _ {n : ℕ} {xs now : List ℕ} {r : Writing} (a : WrittenAs n xs (zeros 
     pub written-few : count ≤ maxWords
     written-few = rw count-is (omega (arith, given-in n xs maxWords pass .few))
 
-    words-are : take count now ≡ wordsOf n xs
-    unfolding bufferAfter
-    words-are = filled-front (wordsOf n xs) (zeros maxWords) now count (words-length n xs (given-in n xs maxWords pass) ∙ sym count-is) (rw (zeros-size maxWords, written) at (a .buffer))
+    word-size : length (wordsOf n xs) ≡ count
+    word-size = words-length n xs (given-in n xs maxWords pass) ∙ sym count-is
 
-    pub make-written : {w next : ℕ} {out out′ : List ℕ} → w ≤ maxBytes → Put w (toBytes (take count now) (length (take count now))) out 0 out′ next
+    words-stored : now ≡ over (wordsOf n xs) (zeros maxWords)
+    unfolding bufferAfter
+    words-stored = rw (zeros-size maxWords, written) at (a .buffer)
+
+    words-are : take count now ≡ wordsOf n xs
+    words-are = filled-front (wordsOf n xs) (zeros maxWords) word-size words-stored
+
+    -- the words can be lent
+    pub written-room : count ≤ length now
+    written-room = filled-fits (wordsOf n xs) (zeros maxWords) word-size words-stored
+
+    pub written-size : count ≡ length (take count now)
+    written-size = rw words-are (sym word-size)
+
+    pub make-written : {next : ℕ} {out out′ : List ℕ} → Put (4 * length (take count now)) (toBytes (take count now) (length (take count now))) out 0 out′ next
         → Put maxBytes (told refusalLine madeDone (writing n xs maxWords)) out 0 out′ next
     unfolding told
-    make-written h put =
+    make-written put =
         let here : told refusalLine madeDone (writing n xs maxWords) ≡ toBytes (take count now) (length (take count now)) = rw (written, words-are) in
-        rw here (put-within put (omega (arith, put .most)))
+        rw here (put-within put (omega (arith, put .most, written-size, written-few)))
 
 -- ---- the numbers of a text
 
@@ -162,7 +184,7 @@ module _ {text xs : List ℕ} {r : Scanned} (a : ScanAs true text (zeros maxNumb
     numbers-some = counted .some
 
     pub numbers-room : count ≤ length xs
-    numbers-room = rw (a .stored, length-append) (omega (arith, counted .size))
+    numbers-room = filled-fits (storedOf true text) (zeros maxNumbers) (sym (counted .size)) (a .stored)
 
     pub make-numbers : {next : ℕ} {out out′ : List ℕ} → Put maxBytes (told refusalLine madeDone (writing (getD xs 0 0) (take (count - 1) (drop 1 xs)) maxWords)) out 0 out′ next
         → Put maxBytes (made text) out 0 out′ next

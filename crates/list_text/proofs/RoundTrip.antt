@@ -3,13 +3,13 @@ use Prim.Native.Nat.{ℕ, zero, suc, _+_, _-_, _*_, _/_, _%_, _^_, _≤_, _<_}
 use mathlib.Core.Bool.{Bool, true, false, cond}
 use mathlib.Core.List.{List, [], _∷_, _++_, append-nil}
 use mathlib.Core.Path.{_≡_, refl, sym, _∙_, ap}
-use native.Mathlib.Nat.{mul-zero, mul-suc}
 use native.Mathlib.Omega.{arith}
 use lib.Dec.{ltb, eqb}
-use lib.ListN.{length, getD, drop, length-append}
-use borrow.Author.Tests.{ltb-false, eqb-true, le-ltb, eq-eqb, ne-eqb}
-use Rattle.timing.specs.Limits.{maxPairs, maxRegisters, maxDelay}
+use lib.ListN.{length, getD, length-append}
+use borrow.Author.Tests.{ltb-false, eqb-true, le-ltb}
+use Rattle.timing.specs.Limits.{maxPairs}
 use Rattle.buffers.specs.Run.{run}
+use Rattle.buffers.proofs.RunLaws.{run-most}
 use Rattle.buffers.proofs.PadLaws.{run-same}
 use Rattle.words.specs.Bytes.{toWords, toBytes}
 use Rattle.refusals.specs.Reply.{done, told}
@@ -17,10 +17,9 @@ use Rattle.refusals.proofs.CheckLaws.{pass-both}
 use Rattle.refusals.proofs.ReplyLaws.{answered-done, one-passes}
 use Rattle.list_format.specs.Lists.{registers, pairCount, pairAt, listChecks, IsAccepted}
 use Rattle.list_format.specs.Read.{fourOf, numbersOf, readChecks, reading}
-use Rattle.list_format.specs.Write.{givenCount, writing}
 use Rattle.list_format.proofs.ListLaws.{ListIn, accepted-in, accepted→none}
 use Rattle.list_format.proofs.ReadBack.{count-is, number-at, read-back}
-use Rattle.pieces.specs.Pieces.{decimal, number, space, newline}
+use Rattle.pieces.specs.Pieces.{number, space, newline}
 use Rattle.pieces.proofs.DecimalLaws.{decimal-few}
 use Rattle.scan.specs.declared.State.{State}
 use Rattle.scan.specs.declared.Scanned.the-variants.{Numbers, Faulty}
@@ -35,11 +34,6 @@ use Rattle.list_text.specs.ListText.{fourLine, pairLine, textOf, shownDo
 -- a number of at most k digits, with the byte that ends it
 short : (k n end : ℕ) → n < 10 ^ suc k → length (number n end) ≤ k + 2
 short k n end h = rw length-append (omega (arith, decimal-few k n h))
-
-few-below : (f : ℕ → List ℕ) (w k : ℕ) → ((i : ℕ) → i < k → length (f i) ≤ w) → length (run f k) ≤ w * k
-unfolding run
-few-below f w zero h = omega arith
-few-below f w (suc k) h = rw (length-append, mul-suc) (omega (arith, few-below f w k (λ i l. h i (omega arith)), h k (omega arith)))
 
 -- the line of a pair, after `count` numbers
 four-reads : (line count a b c d : ℕ) → 0 < count → count + 4 ≤ maxNumbers → a ≤ 4_294_967_295 → b ≤ 4_294_967_295 → c ≤ 4_294_967_295 → d ≤ 4_294_967_295
@@ -105,7 +99,7 @@ module _ (ws : List ℕ) (l : ListIn ws) where
   unfolding lineAt
   text-short =
       let head = short 2 (registers ws) newline (omega (arith, l .head .most)) in
-      let lines = few-below lineAt 24 (pairCount ws) line-short in
+      let lines = run-most lineAt 24 (pairCount ws) line-short in
       rw (text-is, length-append) (omega (arith, l .head .few, head, lines))
     where
       line-short : (k : ℕ) → k < pairCount ws → length (lineAt k) ≤ 24

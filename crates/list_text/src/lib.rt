@@ -1,13 +1,12 @@
 // A delay list as plain text, and back. What `show` writes, `make` reads back to the same bytes: `proofs/RoundTrip.antt`.
 // The contracts cite `specs/ListText.antt`.
-ghost use mathlib.Core.Path.{_≡_};
 ghost use Prim.Native.Nat.{_+_, _*_, _≤_};
 ghost use lib.ListN.{length};
 ghost use Rattle.pieces.specs.Pieces.{Put};
 ghost use Rattle.refusals.specs.Reply.{told};
 ghost use Rattle.plain_words.specs.PlainWords.{refusalLine};
 ghost use Rattle.list_format.specs.Read.{reading};
-ghost use Rattle.list_format.specs.Write.{givenCount, writing};
+ghost use Rattle.list_format.specs.Write.{writing};
 ghost use Rattle.list_bytes.specs.ListBytes.{maxWords, maxBytes};
 ghost use Rattle.timing.specs.Limits.{maxPairs};
 ghost use Rattle.list_text.specs.ListText.{fourLine, pairLine, textOf, shownDone, shown, madeDone, made};

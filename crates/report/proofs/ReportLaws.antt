@@ -4,9 +4,9 @@ use mathlib.Core.List.{List, [], _∷_, _++_}
 use mathlib.Core.Path.{_≡_}
 use native.Mathlib.Omega.{arith}
 use borrow.Author.Tests.{le-ltb}
-use Rattle.timing.specs.Limits.{maxRegisters, maxPairs, scratchPlaces}
-use Rattle.buffers.specs.Over.{over}
-use Rattle.buffers.proofs.PadLaws.{zeros, zeros-size, over-zeros, run-same}
+use Rattle.timing.specs.Limits.{maxRegisters, scratchPlaces, maxScratch}
+use Rattle.buffers.specs.Over.{over, zeros}
+use Rattle.buffers.proofs.PadLaws.{zeros-size, over-zeros, run-same}
 use Rattle.refusals.specs.Reply.{numbers, done, replyOf, bufferAfter, told}
 use Rattle.refusals.proofs.CheckLaws.{passes}
 use Rattle.refusals.proofs.ReplyLaws.{then-done, told-refusal, told-numbers}
@@ -25,14 +25,10 @@ plan-same : (n k : ℕ) (xs ys : List ℕ) → planLines n xs (over ys (zeros k)
 unfolding registerLines
 plan-same n k xs ys = rw (run-same (lineOf n (over ys (zeros k))) (lineOf n ys) n (λ r l. rw (over-zeros ys k r, over-zeros ys k (n + r))))
 
--- the places of scratch that the largest list takes
-abbrev spare : ℕ
-spare = scratchPlaces maxRegisters maxPairs
-
 -- the call returned r and left `answer` in the answer buffer; both buffers held zeros, with room for the largest list
-module _ {ws answer scratch : List ℕ} {r : Planning} (a : PlanAs ws (zeros (2 * maxRegisters)) answer (zeros spare) scratch r) where
+module _ {ws answer scratch : List ℕ} {r : Planning} (a : PlanAs ws (zeros (2 * maxRegisters)) answer (zeros maxScratch) scratch r) where
   plan-reply : planReply r ≡ replyOf (planOf ws)
-  plan-reply = rw (zeros-size (2 * maxRegisters), zeros-size spare) at (a .reply)
+  plan-reply = rw (zeros-size (2 * maxRegisters), zeros-size maxScratch) at (a .reply)
 
   -- the text of a refusal
   pub text-refused : {number place next : ℕ} {was now : List ℕ} → r ≡ Refused number place → Put 53 (refusalLine number place) was 0 now next
@@ -48,14 +44,14 @@ module _ {ws answer scratch : List ℕ} {r : Planning} (a : PlanAs ws (zeros (2 
 
     pub planned-in : HeadIn ws
     unfolding planning
-    planned-in = numbers-in ws (callChecks (registers ws) (pairCount ws) (2 * maxRegisters) spare) _ plan-told .head
+    planned-in = numbers-in ws (callChecks (registers ws) (pairCount ws) (2 * maxRegisters) maxScratch) _ plan-told .head
 
     -- the text of a plan
     pub text-planned : {n next : ℕ} {was now : List ℕ} → n ≡ registers ws → Put (107 + 63 * n) (planLines n (c ∷ f ∷ t ∷ o ∷ []) answer) was 0 now next
         → Put textPlaces (told refusalLine (planLines (registers ws)) (planOf ws)) was 0 now next
     text-planned {n} h put =
         let few : n ≤ maxRegisters = omega (arith, planned-in .most) in
-        let stored : answer ≡ bufferAfter (planOf ws) (zeros (2 * maxRegisters)) = rw (zeros-size (2 * maxRegisters), zeros-size spare) at (a .stored) in
+        let stored : answer ≡ bufferAfter (planOf ws) (zeros (2 * maxRegisters)) = rw (zeros-size (2 * maxRegisters), zeros-size maxScratch) at (a .stored) in
         rw (told-numbers refusalLine (planLines (registers ws)) (zeros (2 * maxRegisters)) (plan-same (registers ws) (2 * maxRegisters)) (planOf ws) plan-told, ← stored, ← h)
         (put-within put (omega (arith, put .most)))
 
@@ -67,6 +63,6 @@ unfolding planning
 room-for-all ws a =
     let head = accepted-in ws a .head in
     let answer : 2 * registers ws ≤ 2 * maxRegisters = omega (arith, head .most) in
-    let scratch : scratchPlaces (registers ws) (pairCount ws) ≤ spare = omega (arith, head .most, head .few) in
-    then-done (listChecks ws) (callChecks (registers ws) (pairCount ws) (2 * maxRegisters) (spare)) _ (accepted→none ws a .none)
-    (passes (callChecks (registers ws) (pairCount ws) (2 * maxRegisters) (spare)) (le-ltb _ _ answer, (le-ltb _ _ scratch, tt)))
+    let scratch : scratchPlaces (registers ws) (pairCount ws) ≤ maxScratch = omega (arith, head .most, head .few) in
+    then-done (listChecks ws) (callChecks (registers ws) (pairCount ws) (2 * maxRegisters) (maxScratch)) _ (accepted→none ws a .none)
+    (passes (callChecks (registers ws) (pairCount ws) (2 * maxRegisters) (maxScratch)) (le-ltb _ _ answer, (le-ltb _ _ scratch, tt)))

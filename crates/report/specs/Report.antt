@@ -2,7 +2,7 @@
 use Prim.Native.Nat.{ℕ, _+_, _*_}
 use mathlib.Core.List.{List, _++_}
 use lib.ListN.{getD}
-use Rattle.timing.specs.Limits.{maxRegisters, maxPairs, scratchPlaces}
+use Rattle.timing.specs.Limits.{maxRegisters, maxScratch}
 use Rattle.buffers.specs.Run.{run}
 use Rattle.refusals.specs.Reply.{Outcome, told}
 use Rattle.list_format.specs.Lists.{registers}
@@ -45,7 +45,7 @@ textPlaces = 32_768
 
 -- the call for the plan of a list, with room for the largest
 abbrev pub planOf : List ℕ → Outcome
-planOf ws = planning ws (2 * maxRegisters) (scratchPlaces maxRegisters maxPairs)
+planOf ws = planning ws (2 * maxRegisters) maxScratch
 
 -- the text for the bytes of a list
 unfoldable pub report : List ℕ → List ℕ

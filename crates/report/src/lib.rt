@@ -1,6 +1,5 @@
 // From the bytes of a delay list to the text of its plan.
 // The contracts cite `specs/Report.antt`. With 20 digits for each number, line one has at most 107 bytes, the line of a register 63 and a refusal 53.
-ghost use mathlib.Core.Path.{_≡_};
 ghost use mathlib.Core.List.{[], _∷_};
 ghost use Prim.Native.Nat.{_+_, _*_, _≤_};
 ghost use lib.ListN.{length};
@@ -12,13 +11,11 @@ use list_bytes::MAX_WORDS;
 use pieces::put_named;
 use pieces::put_number;
 use planner::Planning;
-use timing::MAX_PAIRS;
 use timing::MAX_REGISTERS;
+use timing::MAX_SCRATCH;
 
-// The places that the plan of the largest list takes in the answer buffer, and of scratch.
+// The places that the plan of the largest list takes in the answer buffer.
 const ANSWER_PLACES: usize = 2 * MAX_REGISTERS as usize;
-
-const SCRATCH_PLACES: usize = 6 * MAX_REGISTERS as usize + 4 * MAX_PAIRS;
 
 // Places enough for any text.
 pub const TEXT_PLACES: usize = 32_768;
@@ -89,7 +86,7 @@ fn put_text(text: &mut [u8], words: &[u32]) -> usize
     ensures { λ r. ⌜ Put textPlaces (told refusalLine (planLines (registers (now (words .entry)))) (planOf (now (words .entry)))) (now (text .entry)) 0 (now (text .exit)) r ⌝ }
 {
     let mut answer = [0u32; ANSWER_PLACES];
-    let mut scratch = [0u32; SCRATCH_PLACES];
+    let mut scratch = [0u32; MAX_SCRATCH];
     match planner::plan(words, &mut answer, &mut scratch) {
         Planning::Refused(number, place) => put_refusal(text, number, place),
         Planning::Planned(common, free, two, offset) => {
