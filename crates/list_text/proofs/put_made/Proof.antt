@@ -12,10 +12,16 @@ put-bytes-requires c κs =
     omega (arith, written-size made e, written-few made e)
 
 returns : tie.Need-returns
-returns c = make-refused (c .before .before .before .before .before .before .before .before .write .ensures) (c .before .before .before .before .before .number .given .1) (c .before .before .put-refusal .ensures)
+returns c =
+    make-refused (c .before .before .before .before .before .before .before .before .write .ensures)
+    (c .before .before .before .before .before .number .given .1)
+    (c .before .before .put-refusal .ensures)
 
 returns-2 : tie.Need-returns-2
-returns-2 c = make-written (c .before .before .before .before .before .before .before .before .before .write .ensures) (c .before .before .before .before .before .before .count .given .1) (c .before .before .put-bytes .ensures)
+returns-2 c =
+    make-written (c .before .before .before .before .before .before .before .before .before .write .ensures)
+    (c .before .before .before .before .before .before .count .given .1)
+    (c .before .before .put-bytes .ensures)
 
 pub put-made-spec : {M : Type 1} → statement M
 put-made-spec =

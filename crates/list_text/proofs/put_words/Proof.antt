@@ -12,10 +12,16 @@ put-list-requires c κs =
     (omega (arith, read-size made e, read-few made e), search needs)
 
 returns : tie.Need-returns
-returns c = show-refused (c .before .before .before .before .before .before .before .before .read .ensures) (c .before .before .before .before .before .number .given .1) (c .before .before .put-refusal .ensures)
+returns c =
+    show-refused (c .before .before .before .before .before .before .before .before .read .ensures)
+    (c .before .before .before .before .before .number .given .1)
+    (c .before .before .put-refusal .ensures)
 
 returns-2 : tie.Need-returns-2
-returns-2 c = show-read (c .before .before .before .before .before .before .before .before .before .read .ensures) (c .before .before .before .before .before .before .n .given .1) (c .before .before .put-list .ensures)
+returns-2 c =
+    show-read (c .before .before .before .before .before .before .before .before .before .read .ensures)
+    (c .before .before .before .before .before .before .n .given .1)
+    (c .before .before .put-list .ensures)
 
 pub put-words-spec : {M : Type 1} → statement M
 put-words-spec =

@@ -10,7 +10,9 @@ others : tie.Need-returns-9
 unfolding meaning
 others c =
     let r = c .before .before .before .before .before .match .rest in
-    others-said meanings _ (c .before .before .before .before .before .before .before .args .number) (r .0 .0 .0 .0 .0 .0 .0 .1, (r .0 .0 .0 .0 .0 .0 .1, (r .0 .0 .0 .0 .0 .1, (r .0 .0 .0 .0 .1, (r .0 .0 .0 .1, (r .0 .0 .1, (r .0 .1, (r .1, tt)))))))) (c .before .before .put-bytes9 .ensures) (omega arith)
+    others-said meanings _ (c .before .before .before .before .before .before .before .args .number)
+    (r .0 .0 .0 .0 .0 .0 .0 .1, (r .0 .0 .0 .0 .0 .0 .1, (r .0 .0 .0 .0 .0 .1, (r .0 .0 .0 .0 .1, (r .0 .0 .0 .1, (r .0 .0 .1, (r .0 .1, (r .1, tt))))))))
+    (c .before .before .put-bytes9 .ensures) (omega arith)
 
 pub put-meaning-spec : {M : Type 1} → statement M
 unfolding wordsFor meaning

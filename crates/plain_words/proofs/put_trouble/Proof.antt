@@ -10,7 +10,9 @@ others : tie.Need-returns-7
 unfolding trouble
 others c =
     let r = c .before .before .before .before .before .match .rest in
-    others-said troubles _ (c .before .before .before .before .before .before .before .args .fault) (r .0 .0 .0 .0 .0 .1, (r .0 .0 .0 .0 .1, (r .0 .0 .0 .1, (r .0 .0 .1, (r .0 .1, (r .1, tt)))))) (c .before .before .put-bytes7 .ensures) (omega arith)
+    others-said troubles _ (c .before .before .before .before .before .before .before .args .fault)
+    (r .0 .0 .0 .0 .0 .1, (r .0 .0 .0 .0 .1, (r .0 .0 .0 .1, (r .0 .0 .1, (r .0 .1, (r .1, tt))))))
+    (c .before .before .put-bytes7 .ensures) (omega arith)
 
 pub put-trouble-spec : {M : Type 1} → statement M
 unfolding wordsFor trouble
