@@ -19,7 +19,9 @@ use Rattle.planner.specs.declared.Planning.{Planning}
 use Rattle.planner.specs.declared.Planning.the-variants.{Planned, Refused}
 use Rattle.pieces.specs.Pieces.{Put}
 use Rattle.pieces.proofs.PutLaws.{put-within}
-use Rattle.report.specs.Report.{lineOf, registerLines, planLines, refusalLine, textPlaces, planOf}
+use Rattle.report.specs.Report.{lineOf, registerLines, planLines, refusalLine, textPlaces, planOf, report}
+use Rattle.list_bytes.specs.ListBytes.{listOf}
+use Rattle.list_bytes.proofs.LoadLaws.{none-refused}
 
 plan-same : (n k : ℕ) (xs ys : List ℕ) → planLines n xs (over ys (zeros k)) ≡ planLines n xs ys
 unfolding registerLines
@@ -54,6 +56,12 @@ module _ {ws answer scratch : List ℕ} {r : Planning} (a : PlanAs ws (zeros (2 
         let stored : answer ≡ bufferAfter (planOf ws) (zeros (2 * maxRegisters)) = rw (zeros-size (2 * maxRegisters), zeros-size maxScratch) at (a .stored) in
         rw (told-numbers refusalLine (planLines (registers ws)) (zeros (2 * maxRegisters)) (plan-same (registers ws) (2 * maxRegisters)) (planOf ws) plan-told, ← stored, ← h)
         (put-within put (omega (arith, put .most)))
+
+-- ---- bytes that make no words
+
+pub none-reported : (bs : List ℕ) → listOf bs ≡ [] → report bs ≡ refusalLine 11 0
+unfolding planning told report
+none-reported bs e = rw (none-refused bs (callChecks (registers (listOf bs)) (pairCount (listOf bs)) (2 * maxRegisters) maxScratch) _ e)
 
 -- ---- room for the largest list is room for every list: no accepted list is refused for want of it
 
