@@ -4,7 +4,7 @@ use Prim.Native.String.{String}
 use mathlib.Core.Bool.{cond}
 use mathlib.Core.List.{List, [], _∷_, _++_}
 use lib.Dec.{eqb}
-use Rattle.pieces.specs.Pieces.{letters, named, space}
+use Rattle.pieces.specs.Pieces.{letters, named, refusedAt}
 
 abbrev pub colon : ℕ
 colon = 58
@@ -45,7 +45,7 @@ unfoldable pub trouble : ℕ → List ℕ
 trouble = wordsFor troubles " the text is longer than 131072 bytes\n"
 
 unfoldable pub refusalLine : ℕ → ℕ → List ℕ
-refusalLine number place = named (letters "refused ") number space ++ (named (letters "at ") place colon ++ meaning number)
+refusalLine number place = refusedAt number place colon ++ meaning number
 
 unfoldable pub faultLine : ℕ → ℕ → List ℕ
 faultLine fault line = named (letters "line ") line colon ++ trouble fault

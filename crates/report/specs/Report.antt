@@ -8,7 +8,7 @@ use Rattle.refusals.specs.Reply.{Outcome, told}
 use Rattle.list_format.specs.Lists.{registers}
 use Rattle.list_bytes.specs.ListBytes.{listOf}
 use Rattle.planner.specs.PlanCall.{planning}
-use Rattle.pieces.specs.Pieces.{letters, number, named, space, newline}
+use Rattle.pieces.specs.Pieces.{letters, number, named, refusedAt, space, newline}
 
 -- ---- the lines
 
@@ -34,8 +34,8 @@ registerLines n xs = run (lineOf n xs) n
 abbrev pub planLines : ℕ → List ℕ → List ℕ → List ℕ
 planLines n returned stored = periodsLine returned ++ registerLines n stored
 
-unfoldable pub refusalLine : ℕ → ℕ → List ℕ
-refusalLine number place = named (letters "refused ") number space ++ named (letters "at ") place newline
+abbrev pub refusalLine : ℕ → ℕ → List ℕ
+refusalLine number place = refusedAt number place newline
 
 -- places enough for any text: 20 digits for each number
 abbrev pub textPlaces : ℕ

@@ -10,6 +10,7 @@ ghost use Rattle.list_format.specs.Lists.{registers};
 use list_bytes::MAX_WORDS;
 use pieces::put_named;
 use pieces::put_number;
+use pieces::put_refused;
 use planner::Planning;
 use timing::MAX_REGISTERS;
 use timing::MAX_SCRATCH;
@@ -19,14 +20,6 @@ const ANSWER_PLACES: usize = 2 * MAX_REGISTERS as usize;
 
 // Places enough for any text.
 pub const TEXT_PLACES: usize = 32_768;
-
-fn put_refusal(text: &mut [u8], number: u32, place: usize) -> usize
-    requires { ⌜ 53 ≤ length (now text) ⌝ }
-    ensures { λ r. ⌜ Put 53 (refusalLine number place) (now (text .entry)) 0 (now (text .exit)) r ⌝ }
-{
-    let at = put_named(text, 0, b"refused ", number as u64, b' ');
-    put_named(text, at, b"at ", place as u64, b'\n')
-}
 
 // Line one: the three periods and the offset.
 fn put_periods(text: &mut [u8], common: u32, free: u32, two: u32, offset: u32) -> usize
@@ -88,7 +81,7 @@ fn put_text(text: &mut [u8], words: &[u32]) -> usize
     let mut answer = [0u32; ANSWER_PLACES];
     let mut scratch = [0u32; MAX_SCRATCH];
     match planner::plan(words, &mut answer, &mut scratch) {
-        Planning::Refused(number, place) => put_refusal(text, number, place),
+        Planning::Refused(number, place) => put_refused(text, number, place, b'\n'),
         Planning::Planned(common, free, two, offset) => {
             let n = words::head_registers(words[0]) as usize;
             put_planned(text, common, free, two, offset, &answer, n)
