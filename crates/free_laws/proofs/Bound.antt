@@ -27,6 +27,10 @@ bound-max a b = record { under = λ u f p m. omega (arith, a .under u f p m, b .
 pub bound-common : {ps : List Pair} {b : ℕ} → Bound ps b → b ≤ common ps
 bound-common {ps} b = b .under (common ps) (time (zeros 0)) (common-pos ps) (common-meets 0 ps)
 
+-- the free period is one
+pub bound-free : (n : ℕ) (ps : List Pair) → Each (InRange n) ps → Bound ps (freePeriod n ps)
+bound-free n ps w = record { under = λ u f p m. period-least n ps w u p (meets→works n u ps w f m) }
+
 -- where there is no schedule at the bound itself, one more is a bound
 pub bound-next : {ps : List Pair} {b : ℕ} → Bound ps b → ((f : ℕ → ℕ) → Each (Meets f) (rules b ps) → ⊥) → Bound ps (b + 1)
 bound-next {ps} {b} h none = record { under = λ u f p m. go u f m (eq-or-lt-of-le (h .under u f p m)) }

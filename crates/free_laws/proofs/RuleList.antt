@@ -47,6 +47,10 @@ each-pair Q t f (p ∷ ps) h = (f p (h .0) (h .1 .0), each-pair Q t f ps (h .1 .
 pub within : (n t : ℕ) (ps : List Pair) → Each (InRange n) ps → Each (Within n) (rules t ps)
 within n t = each-rule (Within n) t (λ p h. ((h .launch, h .capture), (h .capture, h .launch)))
 
+-- what meets the rules meets them at a longer period
+pub meets-longer : (f : ℕ → ℕ) (t u : ℕ) → t ≤ u → (ps : List Pair) → Each (Meets f) (rules t ps) → Each (Meets f) (rules u ps)
+meets-longer f t u h ps m = each-rule (Meets f) u (λ p b. b) ps (each-pair (Meets f) t (λ p a b. (omega arith, b)) ps m)
+
 -- the test and the rules say the same
 module _ (t : ℕ) (ps : List Pair) (s : List ℕ) where
   pub admissible→meets : admissible t ps s ≡ true → Each (Meets (time s)) (rules t ps)

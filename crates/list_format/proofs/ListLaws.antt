@@ -1,6 +1,6 @@
 -- What it means for a list to be accepted, fact by fact, and what follows for its pairs.
 use Prim.Native.Nat.{ℕ, zero, suc, _+_, _*_, _-_, _<_, _≤_}
-use mathlib.Core.Bool.{Bool, not}
+use mathlib.Core.Bool.{Bool, true, false, not}
 use mathlib.Core.List.{List, [], _∷_, _++_}
 use mathlib.Core.Path.{_≡_, refl, sym, _∙_, ap}
 use native.Mathlib.Omega.{arith}
@@ -16,7 +16,7 @@ use Rattle.refusals.specs.declared.Fault.{Fault}
 use Rattle.refusals.specs.declared.Fault.the-variants.{None, At}
 use Rattle.refusals.proofs.CheckLaws.{stop-first, pass-first, both-pass, pass-both, passed, passes, each-passes, all-pass}
 use Rattle.refusals.proofs.ReplyLaws.{numbers-none}
-use Rattle.list_format.specs.Lists.{word, registers, pairCount, pairPlace, pairAt, pairsFrom, pairs, differ, headChecks, kindChecks, valueChecks, pairChecks, endChecks, bodyChecks, listChecks, judged, verdict, IsAccepted, PairIn, IsPair}
+use Rattle.list_format.specs.Lists.{word, registers, pairCount, pairPlace, pairAt, pairsFrom, pairs, placeOf, differ, headChecks, kindChecks, valueChecks, pairChecks, endChecks, bodyChecks, listChecks, judged, verdict, IsAccepted, PairIn, IsPair}
 use Rattle.list_format.specs.declared.Verdict.{Verdict}
 use Rattle.list_format.specs.declared.Verdict.the-variants.{Accepted, Refused}
 
@@ -260,3 +260,16 @@ module _ (ws : List ℕ) where
 
   pub pairs-within : IsAccepted ws → Each (λ p. p .greatest ≤ maxDelay) (pairs ws)
   pairs-within a = each-pair (λ p. p .greatest ≤ maxDelay) (λ k h. accepted-in a .values k h .limit)
+
+-- ---- walks up and down the list
+
+pub place-in : (m i : ℕ) (down : Bool) → i < m → placeOf m down i < m
+place-in m i true h = omega arith
+place-in m i false h = h
+
+-- what holds at every place of a walk holds of every pair
+pub each-place : (P : ℕ → Type 0) (m : ℕ) (down : Bool) → ((i : ℕ) → i < m → P (placeOf m down i)) → (k : ℕ) → k < m → P k
+each-place P m false h k l = h k l
+each-place P m true h k l =
+    let back : m - 1 - (m - 1 - k) ≡ k = omega arith in
+    rw back at (h (m - 1 - k) (omega arith))

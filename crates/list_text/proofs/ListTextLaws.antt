@@ -183,9 +183,6 @@ module _ {text xs : List ℕ} {r : Scanned} (a : ScanAs true text (zeros maxNumb
     pub numbers-some : 1 ≤ count
     numbers-some = counted .some
 
-    pub numbers-room : count ≤ length xs
-    numbers-room = filled-fits (storedOf true text) (zeros maxNumbers) (sym (counted .size)) (a .stored)
-
     pub make-numbers : {next : ℕ} {out out′ : List ℕ} → Put maxBytes (told refusalLine madeDone (writing (getD xs 0 0) (take (count - 1) (drop 1 xs)) maxWords)) out 0 out′ next
         → Put maxBytes (made text) out 0 out′ next
     unfolding madeOf

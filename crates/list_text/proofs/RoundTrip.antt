@@ -23,7 +23,7 @@ use Rattle.pieces.specs.Pieces.{number, space, newline}
 use Rattle.pieces.proofs.DecimalLaws.{decimal-few}
 use Rattle.scan.specs.declared.State.{State}
 use Rattle.scan.specs.declared.Scanned.the-variants.{Numbers, Faulty}
-use Rattle.scan.specs.Scan.{maxNumbers, textBytes, start, closed, lineFault, lineEnded, someNumber, finished, kept, after, ended, last, numbersOf as numbersIn, scanned, storedOf}
+use Rattle.scan.specs.Scan.{maxNumbers, textBytes, start, closed, lineFault, finished, kept, after, ended, last, numbersOf as numbersIn, scanned, storedOf}
 use Rattle.scan.proofs.CaseLaws.{line-next, finish-some, blank-line, pair-line}
 use Rattle.scan.proofs.ReadsLaws.{Reads, reads-none, reads-then, at, reads-space, reads-newline}
 use Rattle.plain_words.specs.PlainWords.{refusalLine}
@@ -52,8 +52,7 @@ end-is : (line count : ℕ) → 0 < count → at true (line + 1) count count ≡
 unfolding closed
 end-is line count some =
     let s = at true line count count in
-    let next : at true (line + 1) count count ≡ lineEnded (closed s) = line-next s refl (blank-line count count true refl refl) refl in
-    finish-some s refl next refl (λ e. omega arith)
+    line-next s refl (blank-line count count true refl refl) refl ∙ finish-some s refl refl refl (λ e. omega arith)
 
 module _ (ws : List ℕ) (l : ListIn ws) where
   fourAt : ℕ → List ℕ

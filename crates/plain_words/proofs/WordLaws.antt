@@ -9,10 +9,6 @@ use Rattle.pieces.specs.Pieces.{letters, Put}
 use Rattle.pieces.proofs.PutLaws.{put-within}
 use Rattle.plain_words.specs.PlainWords.{wordsFor}
 
--- the words of row k
-pub said : (f : ℕ → List ℕ) {number k w at next : ℕ} {was now : List ℕ} → number ≡ k → Put w (f k) was at now next → w ≤ 80 → Put 80 (f number) was at now next
-said f e put h = rw e (put-within put (omega (arith, put .most)))
-
 -- no row has the number
 abbrev pub NoRow : List (ℕ × String) → ℕ → Type 0
 NoRow [] number = Unit {0}

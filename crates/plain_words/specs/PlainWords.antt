@@ -37,7 +37,7 @@ troubles =
     ∷ (2, " a number is above 4294967295\n")
     ∷ (3, " the first line holds one number, the count of registers\n")
     ∷ (4, " a pair takes four numbers: launch capture least greatest\n")
-    ∷ (5, " too many numbers: a list has at most 2048 pairs\n")
+    ∷ (5, " too many numbers: a text has at most 8193, enough for 2048 pairs\n")
     ∷ (6, " the text holds no number\n")
     ∷ []
 

@@ -69,7 +69,7 @@ fn put_trouble(text: &mut [u8], at: usize, fault: u32) -> usize
         5 => put_bytes(
             text,
             at,
-            b" too many numbers: a list has at most 2048 pairs\n",
+            b" too many numbers: a text has at most 8193, enough for 2048 pairs\n",
         ),
         6 => put_bytes(text, at, b" the text holds no number\n"),
         _ => put_bytes(text, at, b" the text is longer than 131072 bytes\n"),

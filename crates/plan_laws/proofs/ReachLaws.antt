@@ -2,17 +2,20 @@
 use mathlib.Core.Path.{_≡_, refl, ap, sym, _∙_, subst}
 use mathlib.Core.Bool.{Bool, true, false, false≢true}
 use mathlib.Core.List.{List, [], _∷_}
-use Prim.Native.Nat.{ℕ, _+_, _-_, _≤_, _<_, min}
+use Prim.Native.Nat.{ℕ, zero, suc, _+_, _-_, _≤_, _<_, min, zero-le}
+use native.Mathlib.Nat.{le-refl}
 use native.Mathlib.Omega.{arith}
 use lib.Dec.{ltb}
-use lib.ListN.{length, getD, length-map, List·getD-map}
+use lib.ListN.{length, getD, replicate, length-map, List·getD-map}
 use borrow.Author.Tests.{ltb-true, ltb-false, le-ltb}
 use Rattle.timing.specs.declared.Pair.{Pair}
-use Rattle.timing.specs.Rules.{Each}
+use Rattle.timing.specs.Rules.{time, Each}
 use Rattle.timing.proofs.RuleLaws.{test→met, met→test}
 use Rattle.search.specs.Search.{IsLeast}
 use Rattle.free_laws.proofs.Lists.{each-zip}
-use Rattle.split_laws.specs.Split.{nothing, found, timing, meets, works, splits, firstOf, firstSplit}
+use Rattle.free_laws.proofs.RuleList.{meets-longer, admissible→meets}
+use Rattle.free_laws.proofs.Bound.{Bound}
+use Rattle.split_laws.specs.Split.{nothing, found, timing, timings, meets, works, splits, firstOf, firstSplit}
 use Rattle.split_laws.specs.Marks.{keeps}
 use Rattle.split_laws.proofs.FirstLaws.{Below, least-first}
 use Rattle.split_laws.proofs.ClosureLaws.{works-each, each-works, first-none}
@@ -190,3 +193,22 @@ module _ (n start top : ℕ) (ps : List Pair) (W : List ℕ) (size : length W �
         passes = λ l. ap isFound (late-first two (omega arith) upto);
         before = λ t a b. ap isFound (none-shorter t a b);
       }
+
+-- ---- reaches to start from
+
+level-at : (k f r : ℕ) → reachOf (replicate k f) r ≤ f
+level-at zero f r = zero-le
+level-at (suc k) f zero = le-refl f
+level-at (suc k) f (suc r) = level-at k f r
+
+-- at periods below a bound of the free period no split works: a split is a schedule
+pub reaches-level : (top : ℕ) (ps : List Pair) (k f : ℕ) → f ≤ top → Bound ps (f + 1) → Reaches top ps (replicate k f)
+unfolding works
+reaches-level top ps k f h b =
+    record {
+      under = λ r. omega (arith, level-at k f r);
+      late = λ r t l c w.
+          let m = admissible→meets t ps (timings (top - t) c) w in
+          let more = meets-longer (time (timings (top - t) c)) t (t + 1) (omega arith) ps m in
+          absurd (omega (arith, level-at k f r, b .under (t + 1) (time (timings (top - t) c)) (omega arith) more));
+    }

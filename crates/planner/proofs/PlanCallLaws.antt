@@ -20,6 +20,8 @@ use Rattle.list_format.specs.declared.Verdict.the-variants.{Accepted}
 use Rattle.list_format.specs.declared.Verdict.the-variants.{Refused as ListRefused}
 use Rattle.list_format.proofs.ListLaws.{refused→fault, accepted→none, none→accepted, pairs-in-range}
 use Rattle.free_laws.specs.Free.{common, freePeriod, freeSchedule}
+use Rattle.free_laws.proofs.FreeLaws.{period-pos}
+use Rattle.free_laws.proofs.Bound.{Bound, bound-free}
 use Rattle.free_schedule.specs.FreeCall.{FreeIn}
 use Rattle.split_laws.specs.Split.{timings}
 use Rattle.plan_laws.specs.Plan.{twoPeriod, twoOffset, twoTimings}
@@ -102,6 +104,16 @@ module _ {ws : List ℕ} {n m room spare : ℕ} (a : Allowed ws n m room spare) 
     lent-ready = record { accepted = a .accepted; counted = a .pairsAre; timed = lent-size ∙ a .registersAre }
 
   -- ---- the two-timing period
+
+  -- the free period bounds it
+  module _ {free : ℕ} (e : free ≡ freePeriod (registers ws) (pairs ws)) where
+    pub free-pos : 1 ≤ free
+    free-pos = omega (arith, e, period-pos (registers ws) (pairs ws) (pairs-in-range ws (a .accepted)))
+
+    pub free-bound : Bound (pairs ws) (free - 1 + 1)
+    free-bound =
+        let same : free - 1 + 1 ≡ freePeriod (registers ws) (pairs ws) = omega (arith, e, free-pos) in
+        rw same (bound-free (registers ws) (pairs ws) (pairs-in-range ws (a .accepted)))
 
   module _ {top two : ℕ} (e : top ≡ common (pairs ws)) {W : List ℕ} (r : Reached ws W two) where
     -- the reaches come back in the first n places, and the split is read from them

@@ -4,8 +4,8 @@ ghost use mathlib.Core.Path.{_≡_};
 ghost use lib.ListN.{length};
 ghost use Rattle.refusals.specs.Checks.{firstFault};
 ghost use Rattle.planner.specs.PlanCall.{callChecks, Allowed, TwoIn, PlanAs};
-ghost use Rattle.list_format.specs.Lists.{pairs};
-ghost use Rattle.free_laws.specs.Free.{common as commonOf};
+ghost use Rattle.list_format.specs.Lists.{registers, pairs};
+ghost use Rattle.free_laws.specs.Free.{common as commonOf, freePeriod};
 use list_format::Verdict;
 use refusals::Fault;
 
@@ -24,20 +24,21 @@ fn call_fault(n: u32, m: u32, room: usize, spare: usize) -> Fault
         .or(spare < 6 * (n as usize) + 4 * (m as usize), 1, 0)
 }
 
-// The two-timing period of an accepted list with that common period; the split's timings fill n places from place n on.
-// The first n places of the scratch are used.
+// The two-timing period of an accepted list with that common and that free period; the split's timings fill n places from
+// place n on. The first n places of the scratch are used.
 fn fill_split(
     words: &[u32],
     n: usize,
     m: usize,
     common: u32,
+    free: u32,
     answer: &mut [u32],
     scratch: &mut [u32],
 ) -> u32
-    requires { ⌜ Allowed (now words) n m (length (now answer)) (length (now scratch)) × (common ≡ commonOf (pairs (now words))) ⌝ }
+    requires { ⌜ Allowed (now words) n m (length (now answer)) (length (now scratch)) × (common ≡ commonOf (pairs (now words))) × (free ≡ freePeriod (registers (now words)) (pairs (now words))) ⌝ }
     ensures { λ r. ⌜ TwoIn (now (words .entry)) n (now (answer .entry)) (now (answer .exit)) (now (scratch .entry)) (now (scratch .exit)) r ⌝ }
 {
-    let two = reach::two_period(words, m, common, &mut scratch[..n]);
+    let two = reach::two_period(words, m, common, free - 1, &mut scratch[..n]);
     reach::write_split(scratch, n, two, common - two, answer);
     two
 }
@@ -49,7 +50,7 @@ fn show(words: &[u32], n: usize, m: usize, answer: &mut [u32], scratch: &mut [u3
 {
     let common = climb::common(words, m);
     let free = free_schedule::fill(words, n, m, answer);
-    let two = fill_split(words, n, m, common, answer, scratch);
+    let two = fill_split(words, n, m, common, free, answer, scratch);
     buffers::clear(scratch, 6 * n + 4 * m);
     let offset = common - two;
     Planning::Planned(common, free, two, offset)

@@ -11,7 +11,7 @@ use Rattle.buffers.proofs.FillLaws.{drop-further}
 use Rattle.timing.specs.declared.Pair.{Pair}
 use Rattle.timing.specs.Rules.{Each}
 use Rattle.list_format.specs.Lists.{pairCount, pairAt, pairsFrom, pairs, placeOf}
-use Rattle.list_format.proofs.ListLaws.{pair-holds}
+use Rattle.list_format.proofs.ListLaws.{pair-holds, each-place}
 use Rattle.split_laws.specs.declared.Change.{Change}
 use Rattle.split_laws.specs.declared.Change.the-variants.{Settled, Changed, Clash}
 use Rattle.split_laws.specs.Split.{works}
@@ -84,11 +84,7 @@ module _ (ws : List ℕ) (n : ℕ) where
   sweep-turn down i ea e h k = pass-with (λ F M x. below-more _ i (x .0) (rw ea at (x .1))) (pass-then e h k)
 
   pub sweep-end : (down : Bool) {S S′ : List ℕ} {o : Change} → Pass ws n (ClosedTo ws down (pairCount ws)) S S′ o → Pass ws n (AllClosed ws) S S′ o
-  sweep-end false h = h
-  sweep-end true h =
-      pass-with (λ F M x k l.
-      let e : pairCount ws - 1 - (pairCount ws - 1 - k) ≡ k = omega arith in
-      rw e at (x (pairCount ws - 1 - k) (omega arith))) h
+  sweep-end down = pass-with (λ F M x. each-place (λ k. PairClosed ws k F M) (pairCount ws) down x)
 
   -- ---- until nothing changes
 

@@ -13,17 +13,17 @@ use Rattle.buffers.specs.Run.{run}
 use Rattle.buffers.proofs.RunLaws.{run-length, run-at}
 use Rattle.timing.specs.declared.Pair.{Pair}
 use Rattle.timing.specs.Limits.{maxDelay}
-use Rattle.list_format.specs.Lists.{registers, pairCount, pairAt, pairsFrom, pairs, IsPair}
-use Rattle.list_format.proofs.ListLaws.{each-pair, pairs-within, pair-holds}
+use Rattle.list_format.specs.Lists.{registers, pairCount, pairAt, pairsFrom, pairs, placeOf, IsPair}
+use Rattle.list_format.proofs.ListLaws.{each-pair, pairs-within, pair-holds, each-place}
 use Rattle.free_laws.specs.Free.{common}
-use Rattle.free_laws.proofs.Sweep.{zeros-below}
+use Rattle.free_laws.proofs.Bound.{Bound, bound-common}
 use Rattle.free_laws.proofs.FreeLaws.{common-limit}
 use Rattle.split_laws.specs.Split.{timing, timings}
 use Rattle.split_laws.proofs.ClosureLaws.{time-of}
 use Rattle.plan_laws.specs.Plan.{twoPeriod}
 use Rattle.plan_laws.specs.Reach.{reachOf, Closed, reachPeriod, lateAbove, ahead, behind, Raised, room, Told, Step}
 use Rattle.plan_laws.proofs.OffsetLaws.{below-common}
-use Rattle.plan_laws.proofs.ReachLaws.{PairOf, pairs-of, period-from, length-late, late-at}
+use Rattle.plan_laws.proofs.ReachLaws.{PairOf, pairs-of, period-from, length-late, late-at, reaches-level}
 use Rattle.plan_laws.proofs.StepLaws.{step-none, step-then, step-with, pair-step}
 use Rattle.plan_laws.proofs.ReachTwo.{period-is, timings-are}
 use Rattle.checker.specs.Check.{Ready}
@@ -68,27 +68,31 @@ raisable-kept a e =
 
 -- ---- sweeps
 
--- the first i pairs raise no reach further
-abbrev pub ClosedTo : List ℕ → ℕ → ℕ → List ℕ → Type 0
-ClosedTo ws top i W = (j : ℕ) → j < i → ClosedAt ws top j W
+-- the pairs at the first i places of a walk raise no reach further
+abbrev pub ClosedTo : List ℕ → ℕ → Bool → ℕ → List ℕ → Type 0
+ClosedTo ws top down i W = (j : ℕ) → j < i → ClosedAt ws top (placeOf (pairCount ws) down j) W
 
 -- i turns of a sweep
-pub record Sweeping (ws : List ℕ) (count top : ℕ) (W W′ : List ℕ) (moved : Bool) (i : ℕ) : Type 0 where
+pub record Sweeping (ws : List ℕ) (count top : ℕ) (down : Bool) (W W′ : List ℕ) (moved : Bool) (i : ℕ) : Type 0 where
   pub bound : i ≤ count
-  pub step : Step top (pairs ws) (ClosedTo ws top i) W W′ moved
+  pub step : Step top (pairs ws) (ClosedTo ws top down i) W W′ moved
 
 module _ {ws : List ℕ} {count top : ℕ} {W : List ℕ} (r : Reaching ws count top W) where
-  pub sweeping-start : Sweeping ws count top W W false 0
-  sweeping-start = record { bound = zero-le; step = step-none (r .reaches) (λ j l. absurd (omega arith)) }
+  pub sweeping-start : (down : Bool) → Sweeping ws count top down W W false 0
+  sweeping-start down = record { bound = zero-le; step = step-none (r .reaches) (λ j l. absurd (omega arith)) }
 
-  module _ {W′ : List ℕ} {moved : Bool} {i : ℕ} (s : Sweeping ws count top W W′ moved i) where
-    pub sweeping-turn : {W″ : List ℕ} {o moved′ : Bool} → i < count → Step top (pairs ws) (ClosedAt ws top i) W′ W″ o → moved′ ≡ (moved || o)
-        → Sweeping ws count top W W″ moved′ (i + 1)
-    sweeping-turn l h e =
-        record { bound = omega arith; step = step-with (λ d. below-more (λ j. ClosedAt ws top j W) i (d .0) (d .1)) (step-then e (s .step) h) }
+  module _ {down : Bool} {W′ : List ℕ} {moved : Bool} {i : ℕ} (s : Sweeping ws count top down W W′ moved i) where
+    pub sweeping-turn : {k : ℕ} {W″ : List ℕ} {o moved′ : Bool} → i < count → k ≡ placeOf count down i → Step top (pairs ws) (ClosedAt ws top k) W′ W″ o → moved′ ≡ (moved || o)
+        → Sweeping ws count top down W W″ moved′ (i + 1)
+    sweeping-turn {k} l at h e =
+        let place : k ≡ placeOf (pairCount ws) down i = at ∙ ap (λ m. placeOf m down i) (r .ready .counted) in
+        record {
+          bound = omega arith;
+          step = step-with (λ d. below-more (λ j. ClosedAt ws top (placeOf (pairCount ws) down j) W) i (d .0) (rw place at (d .1))) (step-then e (s .step) h);
+        }
 
     pub sweeping-end : count ≤ i → Step top (pairs ws) (ClosedAll ws top) W W′ moved
-    sweeping-end l = step-with (λ d k h. d k (omega (arith, r .ready .counted))) (s .step)
+    sweeping-end l = step-with (λ d. each-place (λ k. ClosedAt ws top k W) (pairCount ws) down (λ j h. d j (omega (arith, r .ready .counted)))) (s .step)
 
   -- a sweep that raised nothing
   pub swept : {W′ : List ℕ} {o : Bool} → Step top (pairs ws) (ClosedAll ws top) W W′ o → o ≡ false → Settled ws count top W′
@@ -97,11 +101,6 @@ module _ {ws : List ℕ} {count top : ℕ} {W : List ℕ} (r : Reaching ws count
       go : (o : Bool) → o ≡ false → Told o top (ClosedAll ws top) W W′ → ClosedAll ws top W′
       go false e x = rw (x .0) (x .1)
       go true e x = absurd (true≢false e)
-
--- the mirrored step serves lists against the order, and says nothing more
-pub turned : {top : ℕ} {ps : List Pair} {D E : List ℕ → Type 0} {W M W′ : List ℕ} {x y o : Bool} → Step top ps D W M x → Step top ps E M W′ y → o ≡ (x || y)
-    → Step top ps D W W′ o
-turned h k e = step-with (λ d. d .0) (step-then e h k)
 
 -- a sweep that raised something leaves less to rise
 pub sweep-less : {top : ℕ} {ps : List Pair} {D : List ℕ → Type 0} {W W′ : List ℕ} {o : Bool} → Step top ps D W W′ o → o ≡ true → room top W′ < room top W
@@ -139,22 +138,19 @@ module _ {ws W : List ℕ} {most k : ℕ} (a : Asked ws W most k) where
       let all = rw none at (a .same) in
       omega (arith, all, a .pos)
 
--- ---- from reaches 0 to the period and its split
+-- ---- from equal reaches to the period and its split
 
-module _ {ws : List ℕ} {count top : ℕ} {W : List ℕ} (ready : Ready ws count W) (e : top ≡ common (pairs ws)) where
-  pub reaching-start : {W′ : List ℕ} → W′ ≡ replicate (length W) 0 ++ drop (length W) W → Reaching ws count top W′
-  reaching-start {W′} cleared =
+module _ {ws : List ℕ} {count top : ℕ} (floor : ℕ) {W : List ℕ} (ready : Ready ws count W) (e : top ≡ common (pairs ws)) (b : Bound (pairs ws) (floor + 1)) where
+  pub reaching-start : {W′ : List ℕ} → W′ ≡ replicate (length W) floor ++ drop (length W) W → Reaching ws count top W′
+  reaching-start {W′} levelled =
       record {
-        ready = record { accepted = ready .accepted; counted = ready .counted; timed = ap length zeros ∙ length-replicate (length W) 0 ∙ ready .timed };
+        ready = record { accepted = ready .accepted; counted = ready .counted; timed = ap length level ∙ length-replicate (length W) floor ∙ ready .timed };
         topIs = e;
-        reaches = record { under = λ r. omega (arith, at r); late = λ r t h. absurd (omega (arith, at r)) };
+        reaches = rw level (reaches-level top (pairs ws) (length W) floor (omega (arith, e, bound-common b)) b);
       }
     where
-      zeros : W′ ≡ replicate (length W) 0
-      zeros = cleared ∙ rw (drop-of-length-le W {i = length W} (le-refl _), append-nil)
-
-      at : (r : ℕ) → reachOf W′ r ≤ 0
-      at r = rw zeros (zeros-below (length W) (λ q. 0) r)
+      level : W′ ≡ replicate (length W) floor
+      level = levelled ∙ rw (drop-of-length-le W {i = length W} (le-refl _), append-nil)
 
 pub reached : {ws : List ℕ} {count top : ℕ} {W : List ℕ} {two : ℕ} → Settled ws count top W → two ≡ reachPeriod 1 (pairs ws) W → Reached ws W two
 reached {ws} {count} {top} {W} {two} s e =

@@ -10,6 +10,7 @@ ghost use lib.ListN.{length, take};
 ghost use Rattle.buffers.specs.Over.{over};
 ghost use Rattle.list_format.specs.Lists.{pairs};
 ghost use Rattle.free_laws.specs.Free.{common};
+ghost use Rattle.free_laws.proofs.Bound.{Bound};
 ghost use Rattle.split_laws.specs.Split.{timing as timingOf, timings};
 ghost use Rattle.plan_laws.specs.Reach.{reachOf, ahead, behind, reachPeriod, lateAbove, Raised, Step};
 ghost use Rattle.checker.specs.Check.{Ready};
@@ -66,40 +67,33 @@ fn step(words: &[u32], count: usize, k: usize, top: u32, reach: &mut [u32]) -> b
     either(first, second)
 }
 
-// Pair i, and the one as far from the end: a sweep goes through the list both ways.
-fn turn(words: &[u32], count: usize, i: usize, top: u32, reach: &mut [u32]) -> bool
-    requires { ⌜ Reaching (now words) count top (now reach) × (i < count) ⌝ }
-    ensures { λ o. ⌜ Step top (pairs (now (words .entry))) (ClosedAt (now (words .entry)) top i) (now (reach .entry)) (now (reach .exit)) o ⌝ }
-{
-    let first = step(words, count, i, top, reach);
-    let second = step(words, count, count - 1 - i, top, reach);
-    either(first, second)
-}
-
-// One sweep; whether it raised anything.
-fn sweep(words: &[u32], count: usize, top: u32, reach: &mut [u32]) -> bool
+// One sweep, up or down the list; whether it raised anything.
+fn sweep(words: &[u32], count: usize, top: u32, down: bool, reach: &mut [u32]) -> bool
     requires { ⌜ Reaching (now words) count top (now reach) ⌝ }
     ensures { λ o. ⌜ Step top (pairs (now (words .entry))) (ClosedAll (now (words .entry)) top) (now (reach .entry)) (now (reach .exit)) o ⌝ }
 {
     let mut moved = false;
     let mut i = 0;
     while i < count {
-        let o = turn(words, count, i, top, reach);
+        let k = delay_list::place(count, i, down);
+        let o = step(words, count, k, top, reach);
         moved = either(moved, o);
         i += 1;
     }
     moved
 }
 
-// Sweeps until nothing is raised.
+// Sweeps up and down the list until nothing is raised.
 fn settle(words: &[u32], count: usize, top: u32, reach: &mut [u32])
     requires { ⌜ Reaching (now words) count top (now reach) ⌝ }
     ensures { λ _. ⌜ Settled (now (words .entry)) count top (now (reach .exit)) ⌝ }
 {
+    let mut down = false;
     loop {
-        if !sweep(words, count, top, reach) {
+        if !sweep(words, count, top, down, reach) {
             return;
         }
+        down = !down;
     }
 }
 
@@ -126,13 +120,14 @@ fn period(words: &[u32], count: usize, reach: &[u32]) -> u32
     most
 }
 
-// The two-timing period of an accepted list with the common period `top`; the reaches are left in the n places lent.
-pub fn two_period(words: &[u32], count: usize, top: u32, reach: &mut [u32]) -> u32
-    requires { ⌜ Ready (now words) count (now reach) × (top ≡ common (pairs (now words))) ⌝ }
+// The two-timing period of an accepted list with the common period `top` and a free period above `floor`; the reaches are left
+// in the n places lent.
+pub fn two_period(words: &[u32], count: usize, top: u32, floor: u32, reach: &mut [u32]) -> u32
+    requires { ⌜ Ready (now words) count (now reach) × (top ≡ common (pairs (now words))) × Bound (pairs (now words)) (floor + 1) ⌝ }
     ensures { λ r. ⌜ Reached (now (words .entry)) (now (reach .exit)) r ⌝ }
 {
     let n = reach.len();
-    buffers::clear(reach, n);
+    buffers::level(reach, n, floor);
     settle(words, count, top, reach);
     period(words, count, reach)
 }

@@ -11,7 +11,7 @@ use Rattle.timing.specs.declared.Pair.{Pair}
 use Rattle.timing.specs.Rules.{time, Each, InRange}
 use Rattle.timing.specs.Limits.{maxTiming}
 use Rattle.list_format.specs.Lists.{pairCount, pairAt, pairs, PairIn, IsPair, placeOf}
-use Rattle.list_format.proofs.ListLaws.{accepted-in, each-pair, pair-holds}
+use Rattle.list_format.proofs.ListLaws.{accepted-in, each-pair, pair-holds, place-in, each-place}
 use Rattle.free_laws.proofs.RuleList as rule-list
 use Rattle.free_laws.proofs.RuleList.{Meets, setup, hold, rules, each-rule}
 use Rattle.free_laws.proofs.Sweep.{Below, Reach, reach-more}
@@ -37,10 +37,6 @@ Reached t x y p = Reach maxTiming x y (setup t p) × Reach maxTiming x y (hold p
 reached-more : (t : ℕ) (x x′ y y′ : List ℕ) (p : Pair) → Below x (time x′) → Below y (time y′) → Reached t x′ y p → Reached t x y′ p
 reached-more t x x′ y y′ p a b h =
     (reach-more maxTiming x x′ y y′ (setup t p) a b (h .0), reach-more maxTiming x x′ y y′ (hold p) a b (h .1))
-
-place-in : (m i : ℕ) (down : Bool) → i < m → placeOf m down i < m
-place-in m i true h = omega arith
-place-in m i false h = h
 
 -- after i turns of a round: the pairs of i places are relaxed
 pub record Part (ws : List ℕ) (t : ℕ) (down : Bool) (x₀ x : List ℕ) (i : ℕ) : Type 0 where
@@ -101,13 +97,7 @@ module _ {ws : List ℕ} {count t : ℕ} {x₀ : List ℕ} (r : Raising ws count
             up = s .up;
             low = s .low;
             reach = each-rule (Reach maxTiming x₀ x) t (λ p b. b) (pairs ws)
-                (each-pair ws (Reached t x₀ x) (λ j b. at-place down j b refl));
+                (each-pair ws (Reached t x₀ x) (each-place (λ k. Reached t x₀ x (pairAt ws k)) (pairCount ws) down (λ i l. s .reach i (omega (arith, r .ready .counted)))));
           };
           capped = s .capped;
         }
-      where
-        at-place : (d : Bool) (j : ℕ) → j < pairCount ws → d ≡ down → Reached t x₀ x (pairAt ws j)
-        at-place false j b e = rw (sym e) at (s .reach j (omega (arith, r .ready .counted)))
-        at-place true j b e =
-            let back : pairCount ws - 1 - (pairCount ws - 1 - j) ≡ j = omega arith in
-            rw back at (rw (sym e) at (s .reach (pairCount ws - 1 - j) (omega (arith, r .ready .counted))))

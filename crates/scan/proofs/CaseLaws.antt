@@ -113,16 +113,16 @@ module _ (s : State) where
   unfolding finished
   finish-stays h = rw (ne-eqb (s .fault) 0 h)
 
-  module _ {last : State} (ok : s .fault ≡ 0) (e : last ≡ lineEnded (closed s)) where
+  module _ {last : State} (ok : s .fault ≡ 0) (e : last ≡ closed s) where
     pub finish-faulty : (last .fault ≡ 0 → ⊥) → last ≡ finished s
-    unfolding finished someNumber
-    finish-faulty h = rw (eq-eqb (s .fault) 0 ok, ← e, ne-eqb (last .fault) 0 h)
+    unfolding finished someNumber lineEnded
+    finish-faulty h = rw (eq-eqb (s .fault) 0 ok, ← e, ne-eqb (last .fault) 0 h, ne-eqb (last .fault) 0 h)
 
     pub finish-none : last .fault ≡ 0 → last .count ≡ 0 → failed last 6 ≡ finished s
-    unfolding finished someNumber
+    unfolding finished someNumber lineEnded
     finish-none h z = rw (eq-eqb (s .fault) 0 ok, ← e, eq-eqb (last .fault) 0 h, eq-eqb (last .count) 0 z)
 
-    pub finish-some : last .fault ≡ 0 → (last .count ≡ 0 → ⊥) → last ≡ finished s
+    pub finish-some : last .fault ≡ 0 → (last .count ≡ 0 → ⊥) → lineEnded last ≡ finished s
     unfolding finished someNumber
     finish-some h z = rw (eq-eqb (s .fault) 0 ok, ← e, eq-eqb (last .fault) 0 h, ne-eqb (last .count) 0 z)
 

@@ -103,7 +103,8 @@ module _ (s : State) (f : Fair s) where
   pub finish-moves : Moves 1 1 s (finished s)
   unfolding finished
   finish-moves =
-      either (eqb (s .fault) 0) (then both-moves (some-moves (lineEnded (closed s)) (fair both-moves)))
+      let some : Moves 0 1 s (someNumber (closed s)) = then (closed-moves s f) (some-moves (closed s) (fair (closed-moves s f))) in
+      either (eqb (s .fault) 0) (then some (line-moves (someNumber (closed s)) (fair some)))
       (more 1 1 (omega arith) (omega arith) (stay s f))
 
 pub fair-in : {s : State} → StateIn s → Fair s

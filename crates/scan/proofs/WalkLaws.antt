@@ -8,13 +8,13 @@ use native.Mathlib.Omega.{arith}
 use lib.Dec.{ltb, eqb}
 use lib.ListN.{length, take, drop, getD, set, length-append}
 use lib.Seq.{take-suc, take-length}
-use borrow.Author.Tests.{ltb-true, ltb-false, lt-ltb, le-ltb, eq-eqb, ne-eqb, eqb-false}
+use borrow.Author.Tests.{ltb-true, ltb-false, lt-ltb, le-ltb, eq-eqb, ne-eqb, eqb-true, eqb-false}
 use Rattle.buffers.specs.Over.{over}
 use Rattle.buffers.proofs.FillLaws.{Filled, filled-none, filled-put, filled-size, set-put}
 use Rattle.scan.specs.declared.State.{State}
 use Rattle.scan.specs.declared.Scanned.{Scanned}
 use Rattle.scan.specs.declared.Scanned.the-variants.{Numbers, Faulty}
-use Rattle.scan.specs.Scan.{maxNumbers, textBytes, start, failed, closed, lineEnded, step, someNumber, finished, kept, keptIn, after, ended, last, numbersOf, told, scanned, storedOf, Counted, ScanAs, StateIn, Walked}
+use Rattle.scan.specs.Scan.{maxNumbers, textBytes, start, failed, closed, lineFault, nextLine, lineEnded, step, someNumber, finished, kept, keptIn, after, ended, last, numbersOf, told, scanned, storedOf, Counted, ScanAs, StateIn, Walked}
 use Rattle.scan.proofs.StateLaws.{Moves, Fair, fair-in, step-moves, finish-moves}
 
 -- ---- runs of bytes strung together
@@ -133,12 +133,24 @@ some-there s = go (eqb (s .fault) 0) refl (eqb (s .count) 0) refl
     go true e false e′ h = omega (arith, eqb-false (s .count) 0 e′)
     go false e b′ e′ h = absurd (eqb-false (s .fault) 0 e h)
 
+-- and the end of its last line keeps it
+line-there : (s : State) → (s .fault ≡ 0 → 0 < s .count) → lineEnded s .fault ≡ 0 → 0 < lineEnded s .count
+unfolding lineEnded
+line-there s = go (eqb (s .fault) 0) refl (eqb (lineFault (s .lined) (s .first) (s .count)) 0)
+  where
+    go : (b : Bool) → eqb (s .fault) 0 ≡ b → (b′ : Bool) → (s .fault ≡ 0 → 0 < s .count)
+        → cond b (cond b′ (nextLine s) (failed s (lineFault (s .lined) (s .first) (s .count)))) s .fault ≡ 0
+        → 0 < cond b (cond b′ (nextLine s) (failed s (lineFault (s .lined) (s .first) (s .count)))) s .count
+    go true e true some h = some (eqb-true (s .fault) 0 e)
+    go true e false some h = some (eqb-true (s .fault) 0 e)
+    go false e b′ some h = some h
+
 finish-some-number : (s : State) → finished s .fault ≡ 0 → 0 < finished s .count
 unfolding finished
 finish-some-number s = go (eqb (s .fault) 0) refl
   where
-    go : (b : Bool) → eqb (s .fault) 0 ≡ b → cond b (someNumber (lineEnded (closed s))) s .fault ≡ 0 → 0 < cond b (someNumber (lineEnded (closed s))) s .count
-    go true e h = some-there (lineEnded (closed s)) h
+    go : (b : Bool) → eqb (s .fault) 0 ≡ b → cond b (lineEnded (someNumber (closed s))) s .fault ≡ 0 → 0 < cond b (lineEnded (someNumber (closed s))) s .count
+    go true e h = line-there (someNumber (closed s)) (some-there (closed s)) h
     go false e h = absurd (eqb-false (s .fault) 0 e h)
 
 module _ {lined : Bool} {bs was : List ℕ} where

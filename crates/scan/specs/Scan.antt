@@ -78,7 +78,7 @@ someNumber s = cond (eqb (s .fault) 0) (cond (eqb (s .count) 0) (failed s 6) s) 
 
 -- the end of the text, which ends its last line
 unfoldable pub finished : State → State
-finished s = cond (eqb (s .fault) 0) (someNumber (lineEnded (closed s))) s
+finished s = cond (eqb (s .fault) 0) (lineEnded (someNumber (closed s))) s
 
 -- the number that ended on the way from one state to the next, if any
 unfoldable pub kept : State → State → List ℕ

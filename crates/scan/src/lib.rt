@@ -159,14 +159,14 @@ impl State {
         if self.fault != 0 {
             return self;
         }
-        let last = self.close().end_line();
+        let last = self.close();
         if last.fault != 0 {
             return last;
         }
         if last.count == 0 {
             return last.fail(6);
         }
-        last
+        last.end_line()
     }
 }
 

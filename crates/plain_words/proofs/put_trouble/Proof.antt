@@ -1,7 +1,8 @@
 -- One answer for each row of words, and one for the others.
 use native.Mathlib.Omega.{arith}
+use Rattle.pieces.proofs.PutLaws.{put-as}
 use Rattle.plain_words.specs.PlainWords.{wordsFor, troubles, trouble}
-use Rattle.plain_words.proofs.WordLaws.{said, others-said}
+use Rattle.plain_words.proofs.WordLaws.{others-said}
 use borrow.Author.Needs.{needs}
 use Rattle.plain_words.proofs.put_trouble.Statement.{statement}
 use Rattle.plain_words.proofs.put_trouble.Tie as tie
@@ -21,10 +22,10 @@ put-trouble-spec =
     (tie.spec
     (λ c. search needs) (λ c κs. search needs) (λ c. search needs) (λ c κs. search needs) (λ c. search needs) (λ c κs. search needs) (λ c. search needs) (λ c κs. search needs)
     (λ c. search needs) (λ c κs. search needs) (λ c. search needs) (λ c κs. search needs) (λ c. search needs) (λ c κs. search needs)
-    (λ c. search needs) (λ c. said trouble (c .before .before .before .before .before .match .keys1) (c .before .before .put-bytes .ensures) (omega arith))
-    (λ c. search needs) (λ c. said trouble (c .before .before .before .before .before .match .keys2) (c .before .before .put-bytes2 .ensures) (omega arith))
-    (λ c. search needs) (λ c. said trouble (c .before .before .before .before .before .match .keys3) (c .before .before .put-bytes3 .ensures) (omega arith))
-    (λ c. search needs) (λ c. said trouble (c .before .before .before .before .before .match .keys4) (c .before .before .put-bytes4 .ensures) (omega arith))
-    (λ c. search needs) (λ c. said trouble (c .before .before .before .before .before .match .keys5) (c .before .before .put-bytes5 .ensures) (omega arith))
-    (λ c. search needs) (λ c. said trouble (c .before .before .before .before .before .match .keys6) (c .before .before .put-bytes6 .ensures) (omega arith))
+    (λ c. search needs) (λ c. put-as trouble 80 (c .before .before .before .before .before .match .keys1) (c .before .before .put-bytes .ensures) (omega arith))
+    (λ c. search needs) (λ c. put-as trouble 80 (c .before .before .before .before .before .match .keys2) (c .before .before .put-bytes2 .ensures) (omega arith))
+    (λ c. search needs) (λ c. put-as trouble 80 (c .before .before .before .before .before .match .keys3) (c .before .before .put-bytes3 .ensures) (omega arith))
+    (λ c. search needs) (λ c. put-as trouble 80 (c .before .before .before .before .before .match .keys4) (c .before .before .put-bytes4 .ensures) (omega arith))
+    (λ c. search needs) (λ c. put-as trouble 80 (c .before .before .before .before .before .match .keys5) (c .before .before .put-bytes5 .ensures) (omega arith))
+    (λ c. search needs) (λ c. put-as trouble 80 (c .before .before .before .before .before .match .keys6) (c .before .before .put-bytes6 .ensures) (omega arith))
     (λ c. search needs) others)

@@ -1,10 +1,15 @@
 -- `fill_split` lends the first n places of the scratch to the reaches, and reads the split from them.
 use denote.Ref.{now}
 use mathlib.Core.Path.{refl, sym}
-use Rattle.planner.proofs.PlanCallLaws.{lent-size, lent-ready, two-fits, two-filled}
+use Rattle.planner.proofs.PlanCallLaws.{lent-size, lent-ready, free-pos, free-bound, two-fits, two-filled}
 use borrow.Author.Needs.{needs}
 use Rattle.planner.proofs.fill_split.Statement.{statement}
 use Rattle.planner.proofs.fill_split.Tie as tie
+
+sub-two-period : tie.Need-sub-two-period
+sub-two-period c =
+    let b = c .before .before .before in
+    free-pos (b .pre .0) (b .pre .2)
 
 slice-aggregate-two-period : tie.Need-slice-aggregate-two-period
 slice-aggregate-two-period c =
@@ -14,7 +19,7 @@ slice-aggregate-two-period c =
 two-period-requires : tie.Need-two-period-requires
 two-period-requires c κs =
     let b = c .before .before .before .before in
-    (lent-ready (b .pre .0) (now (b .args .scratch)) refl, b .pre .1)
+    (lent-ready (b .pre .0) (now (b .args .scratch)) refl, b .pre .1, free-bound (b .pre .0) (b .pre .2))
 
 sub-write-split : tie.Need-sub-write-split
 sub-write-split c =
@@ -30,5 +35,5 @@ returns c =
 pub fill-split-spec : {M : Type 1} → statement M
 fill-split-spec =
     tie.close
-    (tie.spec (λ c. search needs) slice-aggregate-two-period two-period-requires sub-write-split (λ c κs. search needs)
+    (tie.spec sub-two-period (λ c. search needs) slice-aggregate-two-period two-period-requires sub-write-split (λ c κs. search needs)
     (λ c. search needs) (λ c. search needs) returns)

@@ -9,7 +9,7 @@ fill-split-requires : tie.Need-fill-split-requires
 fill-split-requires c κs =
     let f = c .before .before .before .before in
     let b = f .before .before .before .before .before .before in
-    (allowed-kept (b .pre) (f .fill .kept .1 .1 .1 .0), f .before .before .common .ensures)
+    (allowed-kept (b .pre) (f .fill .kept .1 .1 .1 .0), f .before .before .common .ensures, f .fill .ensures .period)
 
 sub-offset : tie.Need-sub-offset
 sub-offset c =

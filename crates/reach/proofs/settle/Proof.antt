@@ -8,10 +8,10 @@ use Rattle.reach.proofs.settle.Statement.{statement}
 use Rattle.reach.proofs.settle.Tie as tie
 
 abbrev Inv-loop : tie.InvT-loop
-Inv-loop words count top reach₀ reach = Reaching words count top reach
+Inv-loop words count top reach₀ down₀ reach down = Reaching words count top reach
 
 abbrev μ-loop : tie.MeasureT-loop
-μ-loop words count top reach₀ reach = room top reach
+μ-loop words count top reach₀ down₀ reach down = room top reach
 
 loop-holds : tie.Need-loop-holds Inv-loop μ-loop
 loop-holds c = c .before .before .pre

@@ -1,4 +1,4 @@
--- `sweep`: the first i pairs raise nothing further.
+-- `sweep`: the pairs at the first i places raise nothing further.
 use Prim.Native.Nat.{_-_}
 use native.Mathlib.Omega.{arith}
 use Rattle.reach.proofs.SweepLaws.{reaching-then, Sweeping, sweeping-start, sweeping-turn, sweeping-end}
@@ -7,24 +7,25 @@ use Rattle.reach.proofs.sweep.Statement.{statement}
 use Rattle.reach.proofs.sweep.Tie as tie
 
 abbrev Inv-loop : tie.InvT-loop
-Inv-loop words count top reach₀ moved₀ i₀ reach moved i = Sweeping words count top reach₀ reach moved i
+Inv-loop words count top down reach₀ moved₀ i₀ reach moved i = Sweeping words count top down reach₀ reach moved i
 
 abbrev μ-loop : tie.MeasureT-loop
-μ-loop words count top reach₀ moved₀ i₀ reach moved i = count - i
+μ-loop words count top down reach₀ moved₀ i₀ reach moved i = count - i
 
 loop-holds : tie.Need-loop-holds Inv-loop μ-loop
-loop-holds c = sweeping-start (c .before .before .pre)
+loop-holds c = sweeping-start (c .before .before .pre) (c .before .before .args .down)
 
-turn-requires : tie.Need-turn-requires Inv-loop μ-loop
-turn-requires c κs =
-    let l = c .before .before in
-    (reaching-then (l .before .before .before .pre) (l .loop .inv .step), c .before .loop-test .taken)
+step-requires : tie.Need-step-requires Inv-loop μ-loop
+step-requires c κs =
+    let l = c .before .before .before in
+    (reaching-then (l .before .before .before .pre) (l .loop .inv .step), c .before .place .ensures .1)
 
 loop-again : tie.Need-loop-again Inv-loop μ-loop
 loop-again c =
     let w = c .before .before .before in
-    let l = w .before .before .before in
-    sweeping-turn (l .before .before .before .pre) (l .loop .inv) (w .before .before .loop-test .taken) (w .turn .ensures) (c .either .ensures)
+    let p = w .before .before in
+    let l = p .before .before in
+    sweeping-turn (l .before .before .before .pre) (l .loop .inv) (p .before .loop-test .taken) (p .place .ensures .0) (w .step .ensures) (c .either .ensures)
 
 same-length : tie.Need-same-length Inv-loop μ-loop
 same-length c = c .before .loop .inv .step .size
@@ -35,4 +36,6 @@ returns c = sweeping-end (c .before .before .before .before .pre) (c .before .lo
 pub sweep-spec : {M : Type 1} → statement M
 sweep-spec =
     tie.close
-    (tie.spec Inv-loop μ-loop loop-holds turn-requires (λ c κs. search needs) (λ c. search needs) (λ c. omega arith) loop-again same-length returns)
+    (tie.spec
+    Inv-loop μ-loop loop-holds (λ c κs. search needs) step-requires (λ c κs. search needs) (λ c. search needs) (λ c. omega arith)
+    loop-again same-length returns)

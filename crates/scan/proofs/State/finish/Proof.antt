@@ -1,4 +1,4 @@
-use mathlib.Core.Path.{_∙_, _≡_}
+use mathlib.Core.Path.{_∙_}
 use Rattle.scan.proofs.CaseLaws.{finish-stays, finish-faulty, finish-none, finish-some}
 use Rattle.scan.proofs.StateLaws.{closed-in}
 use borrow.Author.Needs.{needs}
@@ -8,25 +8,27 @@ use Rattle.scan.proofs.State.finish.Tie as tie
 returns : tie.Need-returns
 returns c = finish-stays _ (c .if1 .taken)
 
-end-line-requires : tie.Need-end-line-requires
-end-line-requires c κs = rw (c .close .ensures) (closed-in _ (c .before .before .before .pre))
-
 returns-2 : tie.Need-returns-2
 returns-2 c =
     let w = c .before .before in
-    finish-faulty _ (w .before .before .if1 .left) (rw (w .before .close .ensures) at (w .end-line .ensures)) (c .if2 .taken)
+    finish-faulty _ (w .before .if1 .left) (w .close .ensures) (c .if2 .taken)
 
 returns-3 : tie.Need-returns-3
 returns-3 c =
     let w = c .before .before .before .before .before in
-    c .fail .ensures ∙ finish-none _ (w .before .before .if1 .left) (rw (w .before .close .ensures) at (w .end-line .ensures)) (c .before .before .before .if2 .left) (c .before .if3 .taken)
+    c .fail .ensures ∙ finish-none _ (w .before .if1 .left) (w .close .ensures) (c .before .before .before .if2 .left) (c .before .if3 .taken)
+
+end-line-requires : tie.Need-end-line-requires
+end-line-requires c κs =
+    let w = c .before .before .before .before in
+    rw (w .close .ensures) (closed-in _ (w .before .before .before .pre))
 
 returns-4 : tie.Need-returns-4
 returns-4 c =
-    let w = c .before .before .before .before in
-    finish-some _ (w .before .before .if1 .left) (rw (w .before .close .ensures) at (w .end-line .ensures)) (c .before .before .if2 .left) (c .if3 .left)
+    let w = c .before .before .before .before .before in
+    c .end-line .ensures ∙ finish-some _ (w .before .if1 .left) (w .close .ensures) (c .before .before .before .if2 .left) (c .before .if3 .left)
 
 pub finish-spec : {M : Type 1} → statement M
 finish-spec =
     tie.close
-    (tie.spec returns (λ c κs. search needs) end-line-requires returns-2 (λ c κs. search needs) returns-3 returns-4)
+    (tie.spec returns (λ c κs. search needs) returns-2 (λ c κs. search needs) returns-3 end-line-requires returns-4)

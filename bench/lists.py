@@ -1,0 +1,116 @@
+"""The lists of the benchmark: a name, the count of registers, and pairs (launch, capture, least, greatest)."""
+import random
+import struct
+
+# circuit: registers, pairs, common period in picoseconds (ISCAS89; those within 512 registers and 2,048 pairs)
+CIRCUITS = {
+    's27': (3, 7, 3451), 's208.1': (8, 36, 4687), 's298': (14, 70, 6185), 's344': (15, 89, 6299), 's349': (15, 89, 5976),
+    's382': (21, 146, 5312), 's386': (6, 36, 5490), 's400': (21, 146, 5679), 's420.1': (16, 136, 6640),
+    's444': (21, 146, 5583), 's499': (22, 484, 8824), 's510': (6, 36, 7189), 's526': (21, 144, 5868),
+    's526n': (21, 144, 5824), 's635': (32, 528, 11487), 's641': (19, 115, 10526), 's713': (19, 115, 10633),
+    's820': (5, 25, 7818), 's832': (5, 25, 7508), 's838.1': (32, 528, 10039), 's938': (32, 528, 9264),
+    's953': (26, 156, 7540), 's967': (26, 156, 7665), 's991': (19, 71, 17399), 's1196': (12, 20, 9157),
+    's1238': (12, 20, 9036), 's1269': (37, 288, 14908), 's1423': (74, 1764, 20431), 's1488': (6, 36, 8762),
+    's1494': (6, 36, 8847), 's1512': (57, 513, 8953), 'prolog': (132, 549, 11522), 's3271': (116, 896, 11952),
+    's3330': (132, 549, 10122), 's3384': (183, 1827, 18863), 's5378': (178, 1144, 8432), 's9234': (160, 2000, 11983),
+    's9234.1': (143, 1884, 11593),
+}
+
+
+def delays(rng, most, low, high):
+    """A greatest delay up to `most`, and a least delay of `low` to `high` hundredths of it."""
+    greatest = rng.randint(most // 3, most)
+    return greatest * rng.randint(low, high) // 100, greatest
+
+
+def circuit(name):
+    """Registers and pairs of a circuit, the longest delay its common period; which pairs there are is drawn."""
+    n, m, common = CIRCUITS[name]
+    rng = random.Random(name)
+    every = [(a, b) for a in range(n) for b in range(n)]
+    chosen = rng.sample(every, m) if m <= len(every) else [rng.choice(every) for _ in range(m)]
+    pairs = [(a, b, *delays(rng, common, 20, 90)) for a, b in chosen]
+    a, b = next((a, b) for a, b, _, _ in pairs if a != b)
+    pairs[0] = (a, b, common * 7 // 10, common)
+    return n, pairs
+
+
+def drawn(n, m, low, high, seed):
+    """Pairs drawn at random, the least delay of `low` to `high` hundredths of the greatest."""
+    rng = random.Random(seed)
+    return n, [(rng.randrange(n), rng.randrange(n), *delays(rng, 1_000_000, low, high)) for _ in range(m)]
+
+
+def near(n, m, reach, seed):
+    """Each register with others at most `reach` away."""
+    rng = random.Random(seed)
+    pairs = []
+    for _ in range(m):
+        a = rng.randrange(n)
+        pairs.append((a, min(n - 1, max(0, a + rng.randint(-reach, reach))), *delays(rng, 1_000_000, 40, 99)))
+    return n, pairs
+
+
+def chain(n, seed):
+    """Register after register, with slow and fast logic in turn."""
+    rng = random.Random(seed)
+    return n, [(r, r + 1, *delays(rng, 1_000_000, 70, 99)) for r in range(n - 1)]
+
+
+def ring(n, seed):
+    rng = random.Random(seed)
+    return n, [(r, (r + 1) % n, *delays(rng, 1_000_000, 70, 99)) for r in range(n)]
+
+
+def ladder(n, seed):
+    """Two chains with rungs both ways."""
+    rng = random.Random(seed)
+    half = n // 2
+    links = [(r, r + 1) for r in range(half - 1)] + [(half + r, half + r + 1) for r in range(half - 1)]
+    links += [(r, half + r) for r in range(half)] + [(half + r, r) for r in range(half)]
+    return n, [(a, b, *delays(rng, 1_000_000, 70, 99)) for a, b in links]
+
+
+def turned(net):
+    """The same net with its pairs in the other order."""
+    n, pairs = net
+    return n, pairs[::-1]
+
+
+def mixed(net, seed):
+    """The same net with registers renumbered and pairs shuffled."""
+    rng = random.Random(seed)
+    n, pairs = net
+    name = rng.sample(range(n), n)
+    pairs = [(name[a], name[b], least, greatest) for a, b, least, greatest in pairs]
+    rng.shuffle(pairs)
+    return n, pairs
+
+
+def encode(net):
+    """The words of a list, as bytes."""
+    n, pairs = net
+    words = [1 << 29 | n << 12 | len(pairs)]
+    for a, b, least, greatest in pairs:
+        words += [2 << 29 | a << 10 | b, 3 << 29 | least, 4 << 29 | greatest]
+    words.append(7 << 29 | sum(words) % (1 << 29))
+    return struct.pack(f'<{len(words)}I', *words)
+
+
+def shapes():
+    """Full-size lists of every shape."""
+    yield 'random', drawn(512, 2048, 0, 100, 1)
+    yield 'random, tight', drawn(512, 2048, 80, 99, 2)
+    yield 'random, loose', drawn(512, 2048, 0, 20, 3)
+    yield 'near neighbours', near(512, 2048, 8, 4)
+    for name, net in ('chain', chain(512, 5)), ('ring', ring(512, 6)), ('ladder', ladder(512, 7)):
+        yield name, net
+        yield name + ', turned', turned(net)
+        yield name + ', mixed', mixed(net, 8)
+
+
+def growth():
+    """More pairs for 512 registers, and more registers for 2,048 pairs."""
+    by_pairs = [(m, drawn(512, m, 60, 99, 9)) for m in (64, 128, 256, 512, 1024, 2048)]
+    by_registers = [(n, drawn(n, 2048, 60, 99, 10)) for n in (16, 32, 64, 128, 256, 512)]
+    return by_pairs, by_registers

@@ -1,0 +1,22 @@
+/* The usual method, for comparison: the same call as darnerflax_plan, for lists that are in order. */
+#ifndef PLAIN_H
+#define PLAIN_H
+
+#include <stddef.h>
+#include <stdint.h>
+
+#ifdef __cplusplus
+extern "C" {
+#endif
+
+/* The four numbers of the plan in `numbers` and its 2n timings in `answer`. */
+void plain_plan(const uint32_t *words, size_t count, uint32_t *answer, uint64_t numbers[4]);
+
+/* The clauses that ask for a split at a period and an offset: pairs of literals, v early as -(v + 1), v late as v + 1. */
+size_t plain_clauses(const uint32_t *words, uint32_t period, uint32_t offset, int *literals);
+
+#ifdef __cplusplus
+}
+#endif
+
+#endif

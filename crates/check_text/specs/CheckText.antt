@@ -1,0 +1,50 @@
+-- What is printed for a schedule that is checked against a list: one line.
+use Prim.Native.Nat.{ℕ}
+use mathlib.Core.Bool.{false, cond}
+use mathlib.Core.List.{List, [], _∷_, _++_}
+use lib.Dec.{eqb}
+use lib.ListN.{getD}
+use Rattle.refusals.specs.Reply.{told}
+use Rattle.list_format.specs.Lists.{pairAt}
+use Rattle.checker.specs.Check.{checking}
+use Rattle.pieces.specs.Pieces.{letters, named, space, newline}
+use Rattle.plain_words.specs.PlainWords.{refusalLine, faultLine}
+use Rattle.list_bytes.specs.ListBytes.{listOf}
+use Rattle.scan.specs.declared.Scanned.{Scanned}
+use Rattle.scan.specs.declared.Scanned.the-variants.{Numbers, Faulty}
+use Rattle.scan.specs.Scan.{scanned, storedOf}
+
+-- places enough for any line
+abbrev pub linePlaces : ℕ
+linePlaces = 133
+
+-- a rule by its number: 0 setup, 1 hold
+unfoldable pub ruleWords : ℕ → List ℕ
+ruleWords rule = cond (eqb rule 0) (letters "breaks setup: ") (letters "breaks hold: ")
+
+abbrev pub registersWords : ℕ → ℕ → List ℕ
+registersWords launch capture = named (letters "launch ") launch space ++ named (letters "capture ") capture newline
+
+-- pair k of the list ws, counted from 0, and the rule that it breaks
+unfoldable pub brokenLine : List ℕ → ℕ → ℕ → List ℕ
+brokenLine ws k rule =
+    named (letters "pair ") k space ++ (ruleWords rule ++ registersWords (pairAt ws k .launch) (pairAt ws k .capture))
+
+-- from the numbers returned: none of an admissible schedule, else the first pair that breaks a rule, and the rule
+unfoldable pub foundLine : List ℕ → List ℕ → List ℕ
+foundLine ws [] = letters "admissible\n"
+foundLine ws (k ∷ rest) = brokenLine ws k (getD rest 0 0)
+
+-- the line for the list ws, a period, and the schedule xs
+unfoldable pub checkedLine : List ℕ → ℕ → List ℕ → List ℕ
+checkedLine ws period xs = told refusalLine (λ returned stored. foundLine ws returned) (checking ws period xs)
+
+-- from the numbers xs of the text of a schedule: a fault in the text comes first. Faults 3 and 4, of the lines of a list, do not occur:
+-- `no-line-fault` in scan's proofs
+unfoldable pub lineOf : List ℕ → ℕ → Scanned → List ℕ → List ℕ
+lineOf ws period (Faulty fault line) xs = faultLine fault line
+lineOf ws period (Numbers count) xs = checkedLine ws period xs
+
+-- the line for the bytes bs of a list, a period, and the text ts of a schedule
+abbrev pub checkText : List ℕ → ℕ → List ℕ → List ℕ
+checkText bs period ts = lineOf (listOf bs) period (scanned false ts) (storedOf false ts)
