@@ -81,6 +81,14 @@ module _ {before : List ℕ} {f : ℕ → List ℕ} {m : ℕ} {was now : List �
         let put : after ≡ take at now ++ (f k ++ drop (at + length (f k)) now) = rw (wide k) s in
         record { bound = omega arith; filled = rw (add-one, ← append-assoc before (run f k) (f k)) (filled-put (h .filled) (f k) after place fits put) }
 
+-- the first places of a buffer that was filled
+module _ (xs was : List ℕ) {now : List ℕ} {k : ℕ} (size : length xs ≡ k) (e : now ≡ over xs was) where
+  pub filled-front : take k now ≡ xs
+  filled-front = rw e (take-at xs (drop (length xs) was) k size)
+
+  pub filled-fits : k ≤ length now
+  filled-fits = rw (e, length-append) (omega (arith, size))
+
 -- a store in the first place, and then what follows it
 pub over-first : (was xs : List ℕ) (v : ℕ) → 0 < length was → over (take 1 (set was 0 v) ++ xs) (set was 0 v) ≡ over (v ∷ xs) was
 over-first [] xs v h = absurd (omega arith)

@@ -41,6 +41,12 @@ module _ (f : ℕ → List ℕ) (w : ℕ) (wide : (k : ℕ) → length (f k) ≡
     pub run-is : length xs ≡ w * m → run f m ≡ xs
     run-is e = run-front ∙ take-all (w * m) xs (omega arith)
 
+-- stretches of at most w numbers
+pub run-most : (f : ℕ → List ℕ) (w k : ℕ) → ((i : ℕ) → i < k → length (f i) ≤ w) → length (run f k) ≤ w * k
+unfolding run
+run-most f w zero h = omega arith
+run-most f w (suc k) h = rw (length-append, mul-suc) (omega (arith, run-most f w k (λ i l. h i (omega arith)), h k (omega arith)))
+
 -- ---- a stretch of a list, number by number
 
 -- w numbers from place i on

@@ -2,20 +2,16 @@
 use Prim.Native.Nat.{ℕ, _≤_, _<_}
 use mathlib.Core.Bool.{Bool, true, false}
 use mathlib.Core.List.{List, [], _∷_, _++_}
-use mathlib.Core.Path.{_≡_, refl, ap, sym, subst, _∙_}
+use mathlib.Core.Path.{_≡_, refl, ap, subst, _∙_}
 use native.Mathlib.Omega.{arith}
 use lib.Dec.{ltb}
-use lib.ListN.{length, take, drop, length-append}
-use lib.Seq.{take-at}
+use lib.ListN.{take}
 use borrow.Author.Tests.{ltb-true}
 use Rattle.timing.specs.declared.Pair.{Pair}
-use Rattle.refusals.specs.Checks.{firstFault}
 use Rattle.refusals.specs.Reply.{numbers, done, replyOf, told}
-use Rattle.refusals.specs.declared.Fault.the-variants.{None}
-use Rattle.refusals.proofs.CheckLaws.{both-pass}
-use Rattle.refusals.proofs.ReplyLaws.{answered-done, numbers-none, told-refusal, told-numbers}
-use Rattle.list_format.specs.Lists.{registers, pairCount, listChecks, PairIn, IsPair}
-use Rattle.list_format.proofs.ListLaws.{none→accepted}
+use Rattle.refusals.proofs.ReplyLaws.{numbers-done, told-refusal, told-numbers}
+use Rattle.list_format.specs.Lists.{registers, pairCount, PairIn, IsPair}
+use Rattle.list_format.proofs.ListLaws.{none→accepted, list-pass, numbers-in}
 use Rattle.checker.specs.Check.{firstBroken, found, callChecks, checkChecks, checking, ruleNumber, checkReply, CheckedAs}
 use Rattle.checker.specs.declared.Rule.{Rule}
 use Rattle.checker.specs.declared.Checking.{Checking}
@@ -26,7 +22,8 @@ use Rattle.plain_words.specs.PlainWords.{refusalLine, faultLine}
 use Rattle.list_bytes.specs.ListBytes.{listOf}
 use Rattle.scan.specs.declared.Scanned.{Scanned}
 use Rattle.scan.specs.declared.Scanned.the-variants.{Numbers, Faulty}
-use Rattle.scan.specs.Scan.{storedOf, ScanAs}
+use Rattle.scan.specs.Scan.{ScanAs}
+use Rattle.scan.proofs.StoredLaws.{stored-front}
 use Rattle.check_text.specs.CheckText.{linePlaces, ruleWords, registersWords, brokenLine, foundLine, checkedLine, lineOf, checkText}
 
 -- ---- the schedule
@@ -65,17 +62,13 @@ module _ {ws s : List ℕ} {t : ℕ} {r : Checking} (a : CheckedAs ws t s r) whe
     unfolding checkReply
     broken-told = rw e
 
-    none : firstFault (checkChecks ws t s) ≡ None
-    unfolding checking
-    none = numbers-none _ _ (broken-told ∙ a .reply)
-
     pub broken-in : PairIn ws k
     unfolding checking replyOf
     broken-in =
-        let is : checking ws t s ≡ done (found ws t s) [] = answered-done (checkChecks ws t s) _ none in
+        let is : checking ws t s ≡ done (found ws t s) [] = numbers-done (checkChecks ws t s) _ (broken-told ∙ a .reply) in
         let told : numbers (k ∷ ruleNumber rule ∷ []) ≡ numbers (found ws t s) = rw is at (broken-told ∙ a .reply) in
         record {
-          accepted = none→accepted ws (both-pass (listChecks ws) (callChecks (registers ws) t s) none .0);
+          accepted = none→accepted ws (list-pass ws (numbers-in ws (callChecks (registers ws) t s) _ (broken-told ∙ a .reply)));
           below = found-below ws s t {rule = ruleNumber rule} cc;
         }
 
@@ -83,11 +76,6 @@ module _ {ws s : List ℕ} {t : ℕ} {r : Checking} (a : CheckedAs ws t s r) whe
         → Put linePlaces (checkedLine ws t s) text 0 text′ next
     unfolding foundLine
     line-broken put = rw (line-by broken-told) put
-
--- a rule, stored
-pub rule-put : (rule : Rule) {w at next : ℕ} {p text text′ : List ℕ} → ruleWords (ruleNumber rule) ≡ p → length p ≤ 14 → Put w p text at text′ next
-    → Put 14 (ruleWords (ruleNumber rule)) text at text′ next
-rule-put rule e h put = rw e (put-within put h)
 
 -- a pair by its numbers, stored
 pub pair-put : (rule : ℕ) {ws : List ℕ} {k : ℕ} {p : Pair} {w next : ℕ} {text text′ : List ℕ} → IsPair ws k p
@@ -109,15 +97,9 @@ module _ {ts was now : List ℕ} {r : Scanned} (a : ScanAs false ts was now r) w
       rw here put
 
   module _ {count : ℕ} (e : r ≡ Numbers count) where
-    numbers-are : take count now ≡ storedOf false ts
-    numbers-are = rw (a .stored) (take-at (storedOf false ts) (drop (length (storedOf false ts)) was) count (sym (a .counted count e .size)))
-
-    pub numbers-room : count ≤ length now
-    numbers-room = rw (a .stored, length-append) (omega (arith, a .counted count e .size))
-
     pub text-numbers : (bs : List ℕ) (t : ℕ) {next : ℕ} {text text′ : List ℕ} → Put linePlaces (checkedLine (listOf bs) t (take count now)) text 0 text′ next
         → Put linePlaces (checkText bs t ts) text 0 text′ next
     unfolding lineOf
     text-numbers bs t put =
-        let here : checkText bs t ts ≡ checkedLine (listOf bs) t (take count now) = rw (← a .answer, e, numbers-are) in
+        let here : checkText bs t ts ≡ checkedLine (listOf bs) t (take count now) = rw (← a .answer, e, stored-front a e) in
         rw here put

@@ -7,7 +7,8 @@ use native.Mathlib.Nat.{eq-or-lt-of-le}
 use native.Mathlib.Omega.{arith}
 use Rattle.timing.specs.declared.Pair.{Pair}
 use Rattle.timing.specs.Rules.{time, Each, InRange}
-use Rattle.free_laws.specs.Free.{zeros, freeAt, common, freePeriod, freeSchedule}
+use Rattle.buffers.specs.Over.{zeros}
+use Rattle.free_laws.specs.Free.{freeAt, common, freePeriod, freeSchedule}
 use Rattle.free_laws.proofs.RuleList.{Meets, rules}
 use Rattle.free_laws.proofs.Least.{Least, least-unique}
 use Rattle.free_laws.proofs.FreeLaws.{free-is-least, works→meets, meets→works, common-pos, common-meets, period-works, period-least, period-pos}

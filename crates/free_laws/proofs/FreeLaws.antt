@@ -9,7 +9,8 @@ use lib.ListN.{length}
 use Rattle.timing.specs.declared.Pair.{Pair}
 use Rattle.timing.specs.Rules.{time, Each, InRange}
 use Rattle.search.proofs.SearchLaws.{least-is-least, least-below, least-passes}
-use Rattle.free_laws.specs.Free.{zeros, relax, round, rounds, freeAt, freeWorks, common, freePeriod}
+use Rattle.buffers.specs.Over.{zeros}
+use Rattle.free_laws.specs.Free.{relax, round, rounds, freeAt, freeWorks, common, freePeriod}
 use Rattle.free_laws.proofs.RuleList.{Meets, setup, hold, rules, each-rule, within, admissible→meets, meets→admissible}
 use Rattle.free_laws.proofs.Sweep.{zeros-below, obey, sweep, sweeps}
 use Rattle.free_laws.proofs.Least.{Least, after, after-size, least-exists, bounded}

@@ -12,7 +12,7 @@ use lib.ListN.{length, length-replicate, List·getD-eq-default}
 use lib.Seq.{ext-getD}
 use borrow.Author.Tests.{leb-true, leb-false, le-leb, ltb-true, ltb-false}
 use Rattle.timing.specs.Rules.{time, Each}
-use Rattle.free_laws.specs.Free.{zeros}
+use Rattle.buffers.specs.Over.{zeros}
 use Rattle.free_laws.proofs.Lists.{Some, each-zip, pick-some, sift}
 use Rattle.free_laws.proofs.RuleList.{Rule, Meets, Within}
 use Rattle.free_laws.proofs.Sweep.{Below, zeros-below, Round, sweeps, sweep-round, still-meets}

@@ -10,7 +10,7 @@ use lib.ListN.{length, length-replicate}
 use lib.Seq.{ext-getD}
 use borrow.Author.Tests.{leb-true, leb-false, le-leb}
 use Rattle.timing.specs.Rules.{time, Each}
-use Rattle.free_laws.specs.Free.{zeros}
+use Rattle.buffers.specs.Over.{zeros}
 use Rattle.free_laws.proofs.Lists.{pick-some}
 use Rattle.free_laws.proofs.RuleList.{Rule, Meets, Within}
 use Rattle.free_laws.proofs.Sweep.{Below, zeros-below, Reach, Round, sweeps}

@@ -7,7 +7,8 @@ use native.Mathlib.Omega.{arith}
 use lib.ListN.{length, set, length-set}
 use lib.Seq.{getD-set-same}
 use Rattle.timing.specs.Rules.{time, Each}
-use Rattle.free_laws.specs.Free.{raise, zeros}
+use Rattle.buffers.specs.Over.{zeros}
+use Rattle.free_laws.specs.Free.{raise}
 use Rattle.free_laws.proofs.Lists.{each-map, each-all}
 use Rattle.free_laws.proofs.RuleList.{Rule, Meets, Within}
 

@@ -2,18 +2,15 @@
 use mathlib.Core.Bool.{Bool}
 use mathlib.Core.List.{List, [], _∷_}
 use Prim.Native.Nat.{ℕ, zero, suc, _+_, _-_, max}
-use lib.ListN.{set, replicate}
+use lib.ListN.{set}
 use Rattle.timing.specs.declared.Pair.{Pair}
 use Rattle.timing.specs.Rules.{time, admissible}
+use Rattle.buffers.specs.Over.{zeros}
 use Rattle.search.specs.Search.{least}
 
 -- register r raised to at least v
 abbrev pub raise : ℕ → ℕ → List ℕ → List ℕ
 raise r v x = set x r (max (time x r) v)
-
--- n registers at 0
-abbrev pub zeros : ℕ → List ℕ
-zeros n = replicate n 0
 
 -- the capture register raised as far as setup asks, then the launch register as far as hold asks
 unfoldable pub relax : ℕ → Pair → List ℕ → List ℕ

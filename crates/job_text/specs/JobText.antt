@@ -4,9 +4,9 @@ use mathlib.Core.Bool.{cond}
 use mathlib.Core.List.{List, _++_}
 use lib.Dec.{eqb}
 use lib.ListN.{getD}
-use Rattle.timing.specs.Limits.{maxRegisters, maxPairs, scratchPlaces}
+use Rattle.timing.specs.Limits.{maxRegisters, maxScratch}
 use Rattle.buffers.specs.Run.{run}
-use Rattle.refusals.specs.Reply.{Outcome, refused, done}
+use Rattle.refusals.specs.Reply.{told}
 use Rattle.list_format.specs.Lists.{registers}
 use Rattle.free_schedule.specs.FreeCall.{freeing}
 use Rattle.split.specs.Splitting.{splitting}
@@ -21,11 +21,6 @@ timingLine xs r = number r space ++ number (getD xs r 0) newline
 -- a line for each of n registers
 unfoldable pub timingLines : ℕ → List ℕ → List ℕ
 timingLines n xs = run (timingLine xs) n
-
--- what a call comes to, as text: the refusal, or what f makes of the numbers returned and stored
-unfoldable pub textBy : (List ℕ → List ℕ → List ℕ) → Outcome → List ℕ
-textBy f (refused number place) = refusalLine number place
-textBy f (done returned stored) = f returned stored
 
 -- places enough for any of these texts: 20 digits for each number
 abbrev pub jobPlaces : ℕ
@@ -42,7 +37,7 @@ freeDone n returned stored = periodsLine (getD returned 0 0) (getD returned 1 0)
 
 -- the text for the bytes of a list
 abbrev pub freeText : List ℕ → List ℕ
-freeText bs = textBy (freeDone (registers (listOf bs))) (freeing (listOf bs) maxRegisters)
+freeText bs = told refusalLine (freeDone (registers (listOf bs))) (freeing (listOf bs) maxRegisters)
 
 -- ---- a split
 
@@ -53,4 +48,4 @@ splitDone n returned stored = cond (eqb (getD returned 0 0) 0) (letters "no spli
 -- the text for the bytes of a list
 abbrev pub splitText : List ℕ → ℕ → ℕ → List ℕ
 splitText bs period offset =
-    textBy (splitDone (registers (listOf bs))) (splitting (listOf bs) period offset maxRegisters (scratchPlaces maxRegisters maxPairs))
+    told refusalLine (splitDone (registers (listOf bs))) (splitting (listOf bs) period offset maxRegisters maxScratch)

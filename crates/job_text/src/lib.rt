@@ -1,27 +1,26 @@
 // The text of a free schedule, and of a split at a period and an offset, for the bytes of a delay list.
 // The contracts cite `specs/JobText.antt`.
-ghost use mathlib.Core.Path.{_≡_};
 ghost use Prim.Native.Nat.{_+_, _*_, _≤_};
 ghost use lib.ListN.{length};
 ghost use mathlib.Core.List.{_++_};
-ghost use Rattle.timing.specs.Limits.{maxRegisters, maxPairs, scratchPlaces};
+ghost use Rattle.timing.specs.Limits.{maxRegisters, maxScratch};
 ghost use Rattle.pieces.specs.Pieces.{Put, letters, number, space, newline};
+ghost use Rattle.refusals.specs.Reply.{told};
 ghost use Rattle.list_format.specs.Lists.{registers};
+ghost use Rattle.plain_words.specs.PlainWords.{refusalLine};
 ghost use Rattle.free_schedule.specs.FreeCall.{freeing};
 ghost use Rattle.split.specs.Splitting.{splitting};
-ghost use Rattle.job_text.specs.JobText.{timingLines, textBy, jobPlaces, periodsLine, freeDone, freeText, splitDone, splitText};
+ghost use Rattle.job_text.specs.JobText.{timingLines, jobPlaces, periodsLine, freeDone, freeText, splitDone, splitText};
 use free_schedule::FreeAnswer;
 use list_bytes::MAX_WORDS;
 use pieces::put_bytes;
 use pieces::put_named;
 use pieces::put_number;
 use split::Splitting;
-use timing::MAX_PAIRS;
 use timing::MAX_REGISTERS;
+use timing::MAX_SCRATCH;
 
 const REGISTER_PLACES: usize = MAX_REGISTERS as usize;
-
-const SCRATCH_PLACES: usize = 6 * REGISTER_PLACES + 4 * MAX_PAIRS;
 
 // Places enough for any text.
 pub const TEXT_PLACES: usize = 42 * REGISTER_PLACES + 133;
@@ -62,7 +61,7 @@ fn put_free(text: &mut [u8], common: u32, free: u32, timings: &[u32], n: usize) 
 // The free schedule for a run of words.
 fn put_free_words(text: &mut [u8], words: &[u32]) -> usize
     requires { ⌜ jobPlaces ≤ length (now text) ⌝ }
-    ensures { λ z. ⌜ Put jobPlaces (textBy (freeDone (registers (now (words .entry)))) (freeing (now (words .entry)) maxRegisters)) (now (text .entry)) 0 (now (text .exit)) z ⌝ }
+    ensures { λ z. ⌜ Put jobPlaces (told refusalLine (freeDone (registers (now (words .entry)))) (freeing (now (words .entry)) maxRegisters)) (now (text .entry)) 0 (now (text .exit)) z ⌝ }
 {
     let mut answer = [0u32; REGISTER_PLACES];
     match free_schedule::free(words, &mut answer) {
@@ -96,10 +95,10 @@ fn put_split(text: &mut [u8], timings: &[u32], n: usize) -> usize
 // The split for a run of words.
 fn put_split_words(text: &mut [u8], words: &[u32], period: u32, offset: u32) -> usize
     requires { ⌜ jobPlaces ≤ length (now text) ⌝ }
-    ensures { λ z. ⌜ Put jobPlaces (textBy (splitDone (registers (now (words .entry)))) (splitting (now (words .entry)) period offset maxRegisters (scratchPlaces maxRegisters maxPairs))) (now (text .entry)) 0 (now (text .exit)) z ⌝ }
+    ensures { λ z. ⌜ Put jobPlaces (told refusalLine (splitDone (registers (now (words .entry)))) (splitting (now (words .entry)) period offset maxRegisters maxScratch)) (now (text .entry)) 0 (now (text .exit)) z ⌝ }
 {
     let mut answer = [0u32; REGISTER_PLACES];
-    let mut scratch = [0u32; SCRATCH_PLACES];
+    let mut scratch = [0u32; MAX_SCRATCH];
     match split::split(words, period, offset, &mut answer, &mut scratch) {
         Splitting::Refused(number, place) => plain_words::put_refusal(text, number, place),
         Splitting::NoSplit => put_bytes(text, 0, b"no split\n"),

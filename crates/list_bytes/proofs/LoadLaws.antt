@@ -1,29 +1,39 @@
 -- The words in the first places of a buffer.
-use Prim.Native.Nat.{ℕ, _*_, _/_, _%_, _^_, _≤_, _<_}
-use mathlib.Core.List.{List, [], _∷_}
-use mathlib.Core.Path.{_≡_, refl, _∙_}
-use native.Mathlib.Nat.{one-mul}
+use Prim.Native.Nat.{ℕ, _/_, _%_, _^_, _≤_, _<_}
+use mathlib.Core.List.{List, [], _++_}
+use mathlib.Core.Path.{_≡_, sym}
 use native.Mathlib.Omega.{arith}
-use lib.ListN.{length, take, drop, getD}
-use lib.Seq.{take-at}
+use lib.ListN.{length, getD, take}
+use lib.Seq.{length-take-le}
 use borrow.Author.Tests.{lt-ltb, le-ltb, eq-eqb, ne-eqb}
 use Rattle.buffers.specs.Over.{over}
-use Rattle.buffers.proofs.RunLaws.{run-length}
-use Rattle.words.specs.Bytes.{wordAt, toWords, toBytes}
-use Rattle.words.proofs.BytesLaws.{bytes-back}
-use Rattle.list_bytes.specs.ListBytes.{maxBytes, maxWords, listOf, LoadedAs}
-
-words-size : (bs : List ℕ) (k : ℕ) → length (toWords bs k) ≡ k
-words-size bs k = run-length (λ i. wordAt bs i ∷ []) 1 (λ i. refl) k ∙ one-mul k
+use Rattle.buffers.proofs.FillLaws.{filled-front}
+use Rattle.words.specs.Bytes.{toWords, toBytes}
+use Rattle.words.proofs.BytesLaws.{words-size, bytes-back}
+use Rattle.refusals.specs.Checks.{Check, orCheck, faultAfter, eachCheck}
+use Rattle.refusals.specs.Reply.{Outcome, refused, answered}
+use Rattle.refusals.proofs.ReplyLaws.{first-refused}
+use Rattle.list_format.specs.Lists.{listChecks}
+use Rattle.list_bytes.specs.ListBytes.{maxBytes, listOf, LoadedAs}
 
 module _ (bs : List ℕ) where
-  pub load-long : (now : List ℕ) → maxBytes < length bs → LoadedAs bs now 0
+  -- too many bytes
+  pub list-long : maxBytes < length bs → listOf bs ≡ []
   unfolding listOf
-  load-long now h = record { room = omega arith; most = omega arith; words = rw (lt-ltb maxBytes (length bs) h) }
+  list-long h = rw (lt-ltb maxBytes (length bs) h)
 
-  pub load-odd : (now : List ℕ) → length bs ≤ maxBytes → (length bs % 4 ≡ 0 → ⊥) → LoadedAs bs now 0
+  -- not four to a word
+  pub list-odd : length bs ≤ maxBytes → (length bs % 4 ≡ 0 → ⊥) → listOf bs ≡ []
   unfolding listOf
-  load-odd now h odd = record { room = omega arith; most = omega arith; words = rw (le-ltb maxBytes (length bs) h, ne-eqb (length bs % 4) 0 odd) }
+  list-odd h odd = rw (le-ltb maxBytes (length bs) h, ne-eqb (length bs % 4) 0 odd)
+
+  pub load-none : (now : List ℕ) → listOf bs ≡ [] → LoadedAs bs now 0
+  load-none now e = record { room = omega arith; most = omega arith; words = rw e }
+
+  -- no words: every job refuses by 11 at 0
+  pub none-refused : (cs : List Check) (o : Outcome) → listOf bs ≡ [] → answered (listChecks (listOf bs) ++ cs) o ≡ refused 11 0
+  unfolding orCheck faultAfter eachCheck
+  none-refused cs o e = first-refused (listChecks (listOf bs)) cs o (rw e)
 
   -- four bytes to a word
   pub list-even : length bs ≤ maxBytes → length bs % 4 ≡ 0 → listOf bs ≡ toWords bs (length bs / 4)
@@ -36,8 +46,12 @@ module _ (bs : List ℕ) where
       record {
         room = room;
         most = omega arith;
-        words = rw (list-even h even, e) (take-at (toWords bs (length bs / 4)) (drop (length (toWords bs (length bs / 4))) was) (length bs / 4) (words-size bs (length bs / 4)));
+        words = rw (list-even h even) (filled-front (toWords bs (length bs / 4)) was (words-size bs (length bs / 4)) e);
       }
+
+  -- the words can be lent
+  pub loaded-size : {now : List ℕ} {count : ℕ} → LoadedAs bs now count → count ≡ length (take count now)
+  loaded-size {now} {count} l = sym (length-take-le count now (l .room))
 
   -- the bytes of the words are the bytes
   pub list-back : length bs ≤ maxBytes → length bs % 4 ≡ 0 → ((i : ℕ) → getD bs i 0 < 2 ^ 8) → toBytes (listOf bs) (length (listOf bs)) ≡ bs

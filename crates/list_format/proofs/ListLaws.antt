@@ -11,9 +11,11 @@ use Rattle.timing.specs.Rules.{Each, InRange}
 use Rattle.timing.specs.Limits.{maxRegisters, maxPairs, maxDelay}
 use Rattle.words.specs.Word.{kindOf, payloadOf, headSpare, pairSpare, checksum}
 use Rattle.refusals.specs.Checks.{Check, firstFault, eachCheck}
+use Rattle.refusals.specs.Reply.{numbers, Outcome, replyOf, answered}
 use Rattle.refusals.specs.declared.Fault.{Fault}
 use Rattle.refusals.specs.declared.Fault.the-variants.{None, At}
 use Rattle.refusals.proofs.CheckLaws.{stop-first, pass-first, both-pass, pass-both, passed, passes, each-passes, all-pass}
+use Rattle.refusals.proofs.ReplyLaws.{numbers-none}
 use Rattle.list_format.specs.Lists.{word, registers, pairCount, pairPlace, pairAt, pairsFrom, pairs, placeOf, differ, headChecks, kindChecks, valueChecks, pairChecks, endChecks, bodyChecks, listChecks, judged, verdict, IsAccepted, PairIn, IsPair}
 use Rattle.list_format.specs.declared.Verdict.{Verdict}
 use Rattle.list_format.specs.declared.Verdict.the-variants.{Accepted, Refused}
@@ -203,6 +205,10 @@ module _ (ws : List ℕ) where
 
   pub accepted-in : IsAccepted ws → ListIn
   accepted-in a = list-in (accepted→none ws a .none)
+
+  -- numbers are returned for accepted lists only
+  pub numbers-in : (cs : List Check) (o : Outcome) {xs : List ℕ} → numbers xs ≡ replyOf (answered (listChecks ws ++ cs) o) → ListIn
+  numbers-in cs o e = list-in (both-pass (listChecks ws) cs (numbers-none (firstFault (listChecks ws ++ cs)) o e) .0)
 
   -- ---- its pairs
 

@@ -26,21 +26,24 @@ use Rattle.list_format.proofs.ListLaws.{ListIn, KindsIn, ValuesIn, no-d
 of-kind : (kind w : ℕ) → kindOf w ≡ kind → wordOf kind (payloadOf w) ≡ w
 of-kind kind w e = rw (← e) (word-of-parts w)
 
-module _ (ws : List ℕ) (l : ListIn ws) where
-  numbers-length : length (numbersOf ws) ≡ 4 * pairCount ws
+module _ (ws : List ℕ) where
+  pub numbers-length : length (numbersOf ws) ≡ 4 * pairCount ws
   numbers-length = run-length (λ k. fourOf (pairAt ws k)) 4 (λ k. refl) (pairCount ws)
 
-  count-is : givenCount (numbersOf ws) ≡ pairCount ws
+  pub count-is : givenCount (numbersOf ws) ≡ pairCount ws
   count-is = omega (arith, numbers-length)
 
+  -- number j of pair k
+  pub number-at : (k : ℕ) → k < pairCount ws → (j : ℕ) → j < 4 → getD (numbersOf ws) (4 * k + j) 0 ≡ getD (fourOf (pairAt ws k)) j 0
+  number-at k h j b = run-at (λ i. fourOf (pairAt ws i)) 4 (λ i. refl) (pairCount ws) k j h b
+
+module _ (ws : List ℕ) (l : ListIn ws) where
   -- pair k of the numbers is pair k of the list
   given-is : (k : ℕ) → k < pairCount ws → givenPair (numbersOf ws) k ≡ pairAt ws k
   given-is k h =
       let z : 4 * k ≡ 4 * k + 0 = omega arith in
+      let at = number-at ws k h in
       rw (at 1 (omega arith), at 2 (omega arith), at 3 (omega arith), z, at 0 (omega arith))
-    where
-      at : (j : ℕ) → j < 4 → getD (numbersOf ws) (4 * k + j) 0 ≡ getD (fourOf (pairAt ws k)) j 0
-      at j b = run-at (λ i. fourOf (pairAt ws i)) 4 (λ i. refl) (pairCount ws) k j h b
 
   -- its three words are those of the list
   three-is : (k : ℕ) → k < pairCount ws → threeOf (givenPair (numbersOf ws) k) ≡ take 3 (drop (3 * k) (drop 1 ws))
@@ -65,7 +68,7 @@ module _ (ws : List ℕ) (l : ListIn ws) where
       let place : pairPlace (pairCount ws) ≡ 1 + 3 * pairCount ws = omega arith in
       let first : take 1 ws ≡ word ws 0 ∷ [] = take-stretch 1 ws 0 (omega (arith, l .head .size)) in
       rw (
-        count-is,
+        count-is ws,
         run-front (λ k. threeOf (givenPair (numbersOf ws) k)) 3 (λ k. refl) (drop 1 ws) (pairCount ws) three-is,
         word-of-head (word ws 0) (l .head .kind) (l .head .spare),
         place,
@@ -77,7 +80,7 @@ module _ (ws : List ℕ) (l : ListIn ws) where
   pub words-back : wordsOf (registers ws) (numbersOf ws) ≡ ws
   words-back =
       let at : ℕ = pairPlace (pairCount ws) in
-      ap closed (ap (openList (registers ws) (numbersOf ws)) count-is ∙ open-is)
+      ap closed (ap (openList (registers ws) (numbersOf ws)) (count-is ws) ∙ open-is)
       ∙ rw (← l .end .payload, of-kind 7 (word ws at) (l .end .kind))
       (sym (take-suc ws at 0 (omega (arith, l .head .size))) ∙ take-all (suc at) ws (omega (arith, l .head .size)))
 
@@ -87,24 +90,24 @@ module _ (ws : List ℕ) (l : ListIn ws) where
       pass-both (countChecks (registers ws) (length (numbersOf ws))) _ counts
       (pass-both (eachCheck (givenChecks (registers ws) (numbersOf ws)) 0 (givenCount (numbersOf ws))) _
       (all-pass (givenChecks (registers ws) (numbersOf ws)) 0 (givenCount (numbersOf ws)) each)
-      (passes _ (le-ltb room (pairPlace (givenCount (numbersOf ws)) + 1) (omega (arith, l .head .size, count-is)), tt)))
+      (passes _ (le-ltb room (pairPlace (givenCount (numbersOf ws)) + 1) (omega (arith, l .head .size, count-is ws)), tt)))
     where
       counts : firstFault (countChecks (registers ws) (length (numbersOf ws))) ≡ None
       counts =
           passes (countChecks (registers ws) (length (numbersOf ws))) (
-            no-difference (length (numbersOf ws) % 4) 0 (omega (arith, numbers-length)),
+            no-difference (length (numbersOf ws) % 4) 0 (omega (arith, numbers-length ws)),
             (
               ne-eqb (registers ws) 0 (λ e. omega (arith, l .head .some)),
-              (le-ltb _ _ (l .head .most), (le-ltb maxPairs (givenCount (numbersOf ws)) (omega (arith, l .head .few, count-is)), tt)),
+              (le-ltb _ _ (l .head .most), (le-ltb maxPairs (givenCount (numbersOf ws)) (omega (arith, l .head .few, count-is ws)), tt)),
             ),
           )
 
       each : (k : ℕ) → k < givenCount (numbersOf ws) → firstFault (givenChecks (registers ws) (numbersOf ws) (0 + k)) ≡ None
       each k b =
           let z : 0 + k ≡ k = omega arith in
-          let below : k < pairCount ws = omega (arith, count-is) in
+          let below : k < pairCount ws = omega (arith, count-is ws) in
           rw z (ap (λ p. firstFault (valueChecks (registers ws) p k k k)) (given-is k below) ∙ values-pass (registers ws) (pairAt ws k) k k k (l .values k below))
 
   pub read-back : (room : ℕ) → length ws ≤ room → writing (registers ws) (numbersOf ws) room ≡ done (length ws ∷ []) ws
   unfolding writing unless
-  read-back room h = rw (checks-back room h, words-back, count-is, ← l .head .size)
+  read-back room h = rw (checks-back room h, words-back, count-is ws, ← l .head .size)

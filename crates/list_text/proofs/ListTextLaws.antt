@@ -1,106 +1,64 @@
 -- From what reading, writing and scanning promise to the text that is stored.
-use Prim.Native.Nat.{ℕ, zero, suc, _+_, _-_, _*_, _≤_, _<_}
+use Prim.Native.Nat.{ℕ, suc, _+_, _-_, _*_, _≤_, _<_}
 use mathlib.Core.Bool.{true}
-use mathlib.Core.List.{List, [], _∷_, _++_}
-use mathlib.Core.Path.{_≡_, refl, sym, _∙_, ap}
+use mathlib.Core.List.{List, [], _∷_}
+use mathlib.Core.Path.{_≡_, refl, sym, _∙_}
 use native.Mathlib.Omega.{arith}
-use lib.ListN.{length, length-append, getD, take, drop, replicate, length-replicate}
+use lib.ListN.{length, getD, take, drop}
 use lib.Seq.{take-at}
-use Rattle.timing.specs.Limits.{maxPairs, maxRegisters}
-use Rattle.buffers.specs.Run.{run}
-use Rattle.buffers.specs.Over.{over}
-use Rattle.buffers.proofs.RunLaws.{run-length}
-use Rattle.words.specs.Bytes.{bytesOf, toBytes}
-use Rattle.refusals.specs.Checks.{Check, firstFault}
-use Rattle.refusals.specs.Reply.{refusal, numbers, Outcome, refused, done, replyOf, bufferAfter, unless, answered}
-use Rattle.refusals.specs.declared.Fault.{Fault}
-use Rattle.refusals.specs.declared.Fault.the-variants.{None, At}
-use Rattle.refusals.proofs.CheckLaws.{both-pass}
-use Rattle.refusals.proofs.ReplyLaws.{answered-done}
-use Rattle.list_format.specs.Lists.{registers, pairCount, pairAt, pairPlace, listChecks}
-use Rattle.list_format.specs.Read.{fourOf, numbersOf, readChecks, reading, readReply}
+use Rattle.timing.specs.Limits.{maxPairs}
+use Rattle.buffers.specs.Over.{over, zeros}
+use Rattle.buffers.proofs.FillLaws.{filled-front, filled-fits}
+use Rattle.buffers.proofs.PadLaws.{zeros-size}
+use Rattle.words.specs.Bytes.{toBytes}
+use Rattle.words.proofs.BytesLaws.{bytes-size}
+use Rattle.refusals.specs.Checks.{firstFault}
+use Rattle.refusals.specs.Reply.{numbers, done, replyOf, bufferAfter, told}
+use Rattle.refusals.specs.declared.Fault.the-variants.{None}
+use Rattle.refusals.proofs.ReplyLaws.{answered-done, numbers-none, numbers-done, told-refusal}
+use Rattle.list_format.specs.Lists.{registers, pairCount, pairPlace}
+use Rattle.list_format.specs.Read.{numbersOf, readChecks, reading, readReply}
 use Rattle.list_format.specs.Write.{givenCount, wordsOf, writeChecks, writing, writeReply}
 use Rattle.list_format.specs.RoundTrip.{ReadAs, WrittenAs}
 use Rattle.list_format.specs.declared.Reading.{Reading}
 use Rattle.list_format.specs.declared.Reading.the-variants.{Read, Refused}
 use Rattle.list_format.specs.declared.Writing.{Writing}
 use Rattle.list_format.specs.declared.Writing.the-variants.{Written, Refused as NotWritten}
-use Rattle.list_format.proofs.ListLaws.{HeadIn, list-in}
-use Rattle.list_format.proofs.WriteBack.{GivenIn, given-in, words-length}
-use Rattle.pieces.specs.Pieces.{Put, number, newline}
-use Rattle.pieces.proofs.PutLaws.{put-within, put-size}
+use Rattle.list_format.proofs.ListLaws.{numbers-in}
+use Rattle.list_format.proofs.ReadBack.{numbers-length}
+use Rattle.list_format.proofs.WriteBack.{given-in, words-length}
+use Rattle.pieces.specs.Pieces.{Put}
+use Rattle.pieces.proofs.PutLaws.{put-within}
 use Rattle.plain_words.specs.PlainWords.{refusalLine, faultLine}
 use Rattle.list_bytes.specs.ListBytes.{maxWords, maxBytes}
 use Rattle.scan.specs.declared.Scanned.{Scanned}
 use Rattle.scan.specs.declared.Scanned.the-variants.{Numbers, Faulty}
 use Rattle.scan.specs.Scan.{maxNumbers, storedOf, Counted, ScanAs}
-use Rattle.list_text.specs.ListText.{textOf, shownAs, madeAs, madeOf, made}
-
--- ---- the reply and the outcome
-
--- numbers are returned only where no check fails
-unrefused : (f : Fault) (o : Outcome) {xs : List ℕ} → numbers xs ≡ replyOf (unless f o) → f ≡ None
-unfolding replyOf unless
-unrefused None o e = refl
-unrefused (At number place) o e =
-    let z : _≡_ {A = ℕ} 0 1 = cc in
-    absurd (omega arith)
-
-shown-refused : (o : Outcome) {number place : ℕ} → refusal number place ≡ replyOf o → shownAs o ≡ refusalLine number place
-unfolding replyOf shownAs
-shown-refused (refused number place) e = cc
-shown-refused (done returned stored) e =
-    let z : _≡_ {A = ℕ} 0 1 = cc in
-    absurd (omega arith)
-
-made-refused : (o : Outcome) {number place : ℕ} → refusal number place ≡ replyOf o → madeAs o ≡ refusalLine number place
-unfolding replyOf madeAs
-made-refused (refused number place) e = cc
-made-refused (done returned stored) e =
-    let z : _≡_ {A = ℕ} 0 1 = cc in
-    absurd (omega arith)
-
--- the first places of a buffer that was filled with xs
-front : (xs was now : List ℕ) (k : ℕ) → length xs ≡ k → now ≡ over xs was → take k now ≡ xs
-front xs was now k size e = rw e (take-at xs (drop (length xs) was) k size)
+use Rattle.list_text.specs.ListText.{textOf, shownDone, madeDone, madeOf, made}
 
 -- ---- showing
-
-numbers-size : (ws : List ℕ) → length (numbersOf ws) ≡ 4 * pairCount ws
-numbers-size ws = run-length (λ k. fourOf (pairAt ws k)) 4 (λ k. refl) (pairCount ws)
-
--- a buffer of k zeros
-abbrev pub zeros : ℕ → List ℕ
-zeros k = replicate k 0
-
-abbrev zeros-size : (k : ℕ) → length (zeros k) ≡ k
-zeros-size k = length-replicate {A = ℕ} k 0
 
 module _ {ws now : List ℕ} {r : Reading} (a : ReadAs ws (zeros (4 * maxPairs)) now r) where
   reply : readReply r ≡ replyOf (reading ws (4 * maxPairs))
   reply = rw (zeros-size (4 * maxPairs)) at (a .reply)
 
   pub show-refused : {number place next : ℕ} {text text′ : List ℕ} → r ≡ Refused number place → Put 133 (refusalLine number place) text 0 text′ next
-      → Put (84 * maxPairs + 133) (shownAs (reading ws (4 * maxPairs))) text 0 text′ next
+      → Put (84 * maxPairs + 133) (told refusalLine shownDone (reading ws (4 * maxPairs))) text 0 text′ next
   unfolding readReply
-  show-refused e put = rw (shown-refused (reading ws (4 * maxPairs)) (rw e at reply)) (put-within put (omega (arith, put .most)))
+  show-refused e put = rw (told-refusal refusalLine shownDone (reading ws (4 * maxPairs)) (rw e at reply)) (put-within put (omega (arith, put .most)))
 
   module _ {n m : ℕ} (e : r ≡ Read n m) where
-    told : numbers (n ∷ m ∷ []) ≡ replyOf (reading ws (4 * maxPairs))
+    read-told : numbers (n ∷ m ∷ []) ≡ replyOf (reading ws (4 * maxPairs))
     unfolding readReply
-    told = rw e at reply
-
-    none : firstFault (readChecks ws (4 * maxPairs)) ≡ None
-    unfolding reading
-    none = unrefused (firstFault (readChecks ws (4 * maxPairs))) (done (registers ws ∷ pairCount ws ∷ []) (numbersOf ws)) told
+    read-told = rw e at reply
 
     is : reading ws (4 * maxPairs) ≡ done (registers ws ∷ pairCount ws ∷ []) (numbersOf ws)
     unfolding reading
-    is = answered-done (readChecks ws (4 * maxPairs)) (done (registers ws ∷ pairCount ws ∷ []) (numbersOf ws)) none
+    is = numbers-done (readChecks ws (4 * maxPairs)) (done (registers ws ∷ pairCount ws ∷ []) (numbersOf ws)) read-told
 
     same : numbers (n ∷ m ∷ []) ≡ numbers (registers ws ∷ pairCount ws ∷ [])
     unfolding replyOf
-    same = rw is at told
+    same = rw is at read-told
 
     pairs-are : m ≡ pairCount ws
     pairs-are = let e = same in cc
@@ -109,23 +67,34 @@ module _ {ws now : List ℕ} {r : Reading} (a : ReadAs ws (zeros (4 * maxPairs))
     registers-are = let e = same in cc
 
     pub read-few : m ≤ maxPairs
-    read-few = rw pairs-are (list-in ws (both-pass (listChecks ws) _ none .0) .head .few)
+    unfolding reading
+    read-few = rw pairs-are (numbers-in ws _ _ read-told .head .few)
+
+    count-size : length (numbersOf ws) ≡ 4 * m
+    count-size = rw (numbers-length ws, pairs-are)
+
+    numbers-stored : now ≡ over (numbersOf ws) (zeros (4 * maxPairs))
+    unfolding bufferAfter
+    numbers-stored = rw (zeros-size (4 * maxPairs), is) at (a .buffer)
 
     numbers-are : take (4 * m) now ≡ numbersOf ws
-    unfolding bufferAfter
-    numbers-are = front (numbersOf ws) (zeros (4 * maxPairs)) now (4 * m) (rw (numbers-size ws, pairs-are)) (rw (zeros-size (4 * maxPairs), is) at (a .buffer))
+    numbers-are = filled-front (numbersOf ws) (zeros (4 * maxPairs)) count-size numbers-stored
+
+    -- the numbers can be lent
+    pub read-room : 4 * m ≤ length now
+    read-room = filled-fits (numbersOf ws) (zeros (4 * maxPairs)) count-size numbers-stored
+
+    pub read-size : 4 * m ≡ length (take (4 * m) now)
+    read-size = rw numbers-are (sym count-size)
 
     pub show-read : {next : ℕ} {text text′ : List ℕ} → Put (84 * maxPairs + 21) (textOf n (take (4 * m) now)) text 0 text′ next
-        → Put (84 * maxPairs + 133) (shownAs (reading ws (4 * maxPairs))) text 0 text′ next
-    unfolding shownAs
+        → Put (84 * maxPairs + 133) (told refusalLine shownDone (reading ws (4 * maxPairs))) text 0 text′ next
+    unfolding told
     show-read put =
-        let here : shownAs (reading ws (4 * maxPairs)) ≡ textOf n (take (4 * m) now) = rw (is, numbers-are, registers-are) in
+        let here : told refusalLine shownDone (reading ws (4 * maxPairs)) ≡ textOf n (take (4 * m) now) = rw (is, numbers-are, registers-are) in
         rw here (put-within put (omega (arith, put .most)))
 
 -- ---- making
-
-bytes-size : (ws : List ℕ) (k : ℕ) → length (toBytes ws k) ≡ 4 * k
-bytes-size ws k = run-length (λ i. bytesOf (getD ws i 0)) 4 (λ i. refl) k
 
 -- the bytes of all words
 pub bytes-put : (ws was now : List ℕ) → 4 * length ws ≤ length was → now ≡ over (toBytes ws (length ws)) was
@@ -139,9 +108,9 @@ module _ {n : ℕ} {xs now : List ℕ} {r : Writing} (a : WrittenAs n xs (zeros 
   answer = rw (zeros-size maxWords) at (a .reply)
 
   pub make-refused : {number place next : ℕ} {out out′ : List ℕ} → r ≡ NotWritten number place → Put 133 (refusalLine number place) out 0 out′ next
-      → Put maxBytes (madeAs (writing n xs maxWords)) out 0 out′ next
+      → Put maxBytes (told refusalLine madeDone (writing n xs maxWords)) out 0 out′ next
   unfolding writeReply
-  make-refused e put = rw (made-refused (writing n xs maxWords) (rw e at answer)) (put-within put (omega (arith, put .most)))
+  make-refused e put = rw (told-refusal refusalLine madeDone (writing n xs maxWords) (rw e at answer)) (put-within put (omega (arith, put .most)))
 
   module _ {count : ℕ} (e : r ≡ Written count) where
     given : numbers (count ∷ []) ≡ replyOf (writing n xs maxWords)
@@ -150,7 +119,7 @@ module _ {n : ℕ} {xs now : List ℕ} {r : Writing} (a : WrittenAs n xs (zeros 
 
     pass : firstFault (writeChecks n xs maxWords) ≡ None
     unfolding writing
-    pass = unrefused (firstFault (writeChecks n xs maxWords)) (done ((pairPlace (givenCount xs) + 1) ∷ []) (wordsOf n xs)) given
+    pass = numbers-none (firstFault (writeChecks n xs maxWords)) (done ((pairPlace (givenCount xs) + 1) ∷ []) (wordsOf n xs)) given
 
     written : writing n xs maxWords ≡ done ((pairPlace (givenCount xs) + 1) ∷ []) (wordsOf n xs)
     unfolding writing
@@ -163,16 +132,29 @@ module _ {n : ℕ} {xs now : List ℕ} {r : Writing} (a : WrittenAs n xs (zeros 
     pub written-few : count ≤ maxWords
     written-few = rw count-is (omega (arith, given-in n xs maxWords pass .few))
 
-    words-are : take count now ≡ wordsOf n xs
-    unfolding bufferAfter
-    words-are = front (wordsOf n xs) (zeros maxWords) now count (words-length n xs (given-in n xs maxWords pass) ∙ sym count-is) (rw (zeros-size maxWords, written) at (a .buffer))
+    word-size : length (wordsOf n xs) ≡ count
+    word-size = words-length n xs (given-in n xs maxWords pass) ∙ sym count-is
 
-    pub make-written : {w next : ℕ} {out out′ : List ℕ} → w ≤ maxBytes → Put w (toBytes (take count now) (length (take count now))) out 0 out′ next
-        → Put maxBytes (madeAs (writing n xs maxWords)) out 0 out′ next
-    unfolding madeAs
-    make-written h put =
-        let here : madeAs (writing n xs maxWords) ≡ toBytes (take count now) (length (take count now)) = rw (written, words-are) in
-        rw here (put-within put (omega (arith, put .most)))
+    words-stored : now ≡ over (wordsOf n xs) (zeros maxWords)
+    unfolding bufferAfter
+    words-stored = rw (zeros-size maxWords, written) at (a .buffer)
+
+    words-are : take count now ≡ wordsOf n xs
+    words-are = filled-front (wordsOf n xs) (zeros maxWords) word-size words-stored
+
+    -- the words can be lent
+    pub written-room : count ≤ length now
+    written-room = filled-fits (wordsOf n xs) (zeros maxWords) word-size words-stored
+
+    pub written-size : count ≡ length (take count now)
+    written-size = rw words-are (sym word-size)
+
+    pub make-written : {next : ℕ} {out out′ : List ℕ} → Put (4 * length (take count now)) (toBytes (take count now) (length (take count now))) out 0 out′ next
+        → Put maxBytes (told refusalLine madeDone (writing n xs maxWords)) out 0 out′ next
+    unfolding told
+    make-written put =
+        let here : told refusalLine madeDone (writing n xs maxWords) ≡ toBytes (take count now) (length (take count now)) = rw (written, words-are) in
+        rw here (put-within put (omega (arith, put .most, written-size, written-few)))
 
 -- ---- the numbers of a text
 
@@ -201,18 +183,11 @@ module _ {text xs : List ℕ} {r : Scanned} (a : ScanAs true text (zeros maxNumb
     pub numbers-some : 1 ≤ count
     numbers-some = counted .some
 
-    pub numbers-room : count ≤ length xs
-    numbers-room = rw (a .stored, length-append) (omega (arith, counted .size))
-
-    pub make-numbers : {next : ℕ} {out out′ : List ℕ} → Put maxBytes (madeAs (writing (getD xs 0 0) (take (count - 1) (drop 1 xs)) maxWords)) out 0 out′ next
+    pub make-numbers : {next : ℕ} {out out′ : List ℕ} → Put maxBytes (told refusalLine madeDone (writing (getD xs 0 0) (take (count - 1) (drop 1 xs)) maxWords)) out 0 out′ next
         → Put maxBytes (made text) out 0 out′ next
     unfolding madeOf
     make-numbers put =
         let some : 0 < length (storedOf true text) = omega (arith, counted .size, counted .some) in
-        let here : made text ≡ madeAs (writing (getD xs 0 0) (take (count - 1) (drop 1 xs)) maxWords) =
+        let here : made text ≡ told refusalLine madeDone (writing (getD xs 0 0) (take (count - 1) (drop 1 xs)) maxWords) =
         rw (← a .answer, e, a .stored, counted .size, first-is (storedOf true text) (zeros maxNumbers) some, rest-is (storedOf true text) (zeros maxNumbers) some) in
         rw here put
-
--- what was stored from the first place on can be lent
-pub put-lent : {w next : ℕ} {p was now : List ℕ} → Put w p was 0 now next → next ≤ length now
-put-lent put = omega (arith, put-size put, put .room, put .after)

@@ -3,47 +3,37 @@ use Prim.Native.Nat.{ℕ, zero, suc, _+_, _-_, _*_, _/_, _%_, _^_, _≤_, _<_}
 use mathlib.Core.Bool.{Bool, true, false, cond}
 use mathlib.Core.List.{List, [], _∷_, _++_, append-nil}
 use mathlib.Core.Path.{_≡_, refl, sym, _∙_, ap}
-use native.Mathlib.Nat.{mul-zero, mul-suc}
 use native.Mathlib.Omega.{arith}
 use lib.Dec.{ltb, eqb}
-use lib.ListN.{length, getD, drop, length-append}
-use borrow.Author.Tests.{ltb-false, eqb-true, le-ltb, eq-eqb, ne-eqb}
-use Rattle.timing.specs.Limits.{maxPairs, maxRegisters, maxDelay}
+use lib.ListN.{length, getD, length-append}
+use borrow.Author.Tests.{ltb-false, eqb-true, le-ltb}
+use Rattle.timing.specs.Limits.{maxPairs}
 use Rattle.buffers.specs.Run.{run}
-use Rattle.buffers.proofs.RunLaws.{run-length, run-at}
+use Rattle.buffers.proofs.RunLaws.{run-most}
+use Rattle.buffers.proofs.PadLaws.{run-same}
 use Rattle.words.specs.Bytes.{toWords, toBytes}
-use Rattle.refusals.specs.Reply.{done, unless}
+use Rattle.refusals.specs.Reply.{done, told}
 use Rattle.refusals.proofs.CheckLaws.{pass-both}
 use Rattle.refusals.proofs.ReplyLaws.{answered-done, one-passes}
 use Rattle.list_format.specs.Lists.{registers, pairCount, pairAt, listChecks, IsAccepted}
 use Rattle.list_format.specs.Read.{fourOf, numbersOf, readChecks, reading}
-use Rattle.list_format.specs.Write.{givenCount, writing}
 use Rattle.list_format.proofs.ListLaws.{ListIn, accepted-in, accepted→none}
-use Rattle.list_format.proofs.ReadBack.{read-back}
-use Rattle.pieces.specs.Pieces.{decimal, number, space, newline}
+use Rattle.list_format.proofs.ReadBack.{count-is, number-at, read-back}
+use Rattle.pieces.specs.Pieces.{number, space, newline}
 use Rattle.pieces.proofs.DecimalLaws.{decimal-few}
 use Rattle.scan.specs.declared.State.{State}
 use Rattle.scan.specs.declared.Scanned.the-variants.{Numbers, Faulty}
 use Rattle.scan.specs.Scan.{maxNumbers, textBytes, start, closed, lineFault, finished, kept, after, ended, last, numbersOf as numbersIn, scanned, storedOf}
 use Rattle.scan.proofs.CaseLaws.{line-next, finish-some, blank-line, pair-line}
 use Rattle.scan.proofs.ReadsLaws.{Reads, reads-none, reads-then, at, reads-space, reads-newline}
+use Rattle.plain_words.specs.PlainWords.{refusalLine}
 use Rattle.list_bytes.specs.ListBytes.{maxWords, maxBytes, listOf}
 use Rattle.list_bytes.proofs.LoadLaws.{list-back}
-use Rattle.list_text.specs.ListText.{fourLine, pairLine, textOf, shownAs, shown, madeAs, madeOf, made}
+use Rattle.list_text.specs.ListText.{fourLine, pairLine, textOf, shownDone, shown, madeOf, made}
 
 -- a number of at most k digits, with the byte that ends it
 short : (k n end : ℕ) → n < 10 ^ suc k → length (number n end) ≤ k + 2
 short k n end h = rw length-append (omega (arith, decimal-few k n h))
-
-same-below : (f g : ℕ → List ℕ) (k : ℕ) → ((i : ℕ) → i < k → f i ≡ g i) → run f k ≡ run g k
-unfolding run
-same-below f g zero h = refl
-same-below f g (suc k) h = rw (same-below f g k (λ i l. h i (omega arith)), h k (omega arith))
-
-few-below : (f : ℕ → List ℕ) (w k : ℕ) → ((i : ℕ) → i < k → length (f i) ≤ w) → length (run f k) ≤ w * k
-unfolding run
-few-below f w zero h = omega arith
-few-below f w (suc k) h = rw (length-append, mul-suc) (omega (arith, few-below f w k (λ i l. h i (omega arith)), h k (omega arith)))
 
 -- the line of a pair, after `count` numbers
 four-reads : (line count a b c d : ℕ) → 0 < count → count + 4 ≤ maxNumbers → a ≤ 4_294_967_295 → b ≤ 4_294_967_295 → c ≤ 4_294_967_295 → d ≤ 4_294_967_295
@@ -71,23 +61,17 @@ module _ (ws : List ℕ) (l : ListIn ws) where
   lineAt : ℕ → List ℕ
   lineAt k = fourLine (pairAt ws k .launch) (pairAt ws k .capture) (pairAt ws k .least) (pairAt ws k .greatest)
 
-  size : length (numbersOf ws) ≡ 4 * pairCount ws
-  size = run-length (λ k. fourOf (pairAt ws k)) 4 (λ k. refl) (pairCount ws)
-
-  count-is : givenCount (numbersOf ws) ≡ pairCount ws
-  count-is = omega (arith, size)
-
   -- the lines of the numbers are those of the pairs
   line-is : (k : ℕ) → k < pairCount ws → pairLine (numbersOf ws) k ≡ lineAt k
   unfolding lineAt
   line-is k h =
-      let nth : (j : ℕ) → j < 4 → getD (numbersOf ws) (4 * k + j) 0 ≡ getD (fourOf (pairAt ws k)) j 0 = λ j b. run-at (λ i. fourOf (pairAt ws i)) 4 (λ i. refl) (pairCount ws) k j h b in
+      let nth = number-at ws k h in
       let z : 4 * k + 0 ≡ 4 * k = omega arith in
       rw (rw z at (nth 0 (omega arith)), nth 1 (omega arith), nth 2 (omega arith), nth 3 (omega arith))
 
   text-is : textOf (registers ws) (numbersOf ws) ≡ number (registers ws) newline ++ run lineAt (pairCount ws)
   unfolding textOf
-  text-is = rw (count-is, same-below (pairLine (numbersOf ws)) lineAt (pairCount ws) line-is)
+  text-is = rw (count-is ws, run-same (pairLine (numbersOf ws)) lineAt (pairCount ws) line-is)
 
   lines-read : (k : ℕ) → k ≤ pairCount ws → Reads (at true 2 1 1) (run lineAt k) (run fourAt k) (at true (2 + k) (1 + 4 * k) (1 + 4 * k))
   unfolding run lineAt fourAt
@@ -114,7 +98,7 @@ module _ (ws : List ℕ) (l : ListIn ws) where
   unfolding lineAt
   text-short =
       let head = short 2 (registers ws) newline (omega (arith, l .head .most)) in
-      let lines = few-below lineAt 24 (pairCount ws) line-short in
+      let lines = run-most lineAt 24 (pairCount ws) line-short in
       rw (text-is, length-append) (omega (arith, l .head .few, head, lines))
     where
       line-short : (k : ℕ) → k < pairCount ws → length (lineAt k) ≤ 24
@@ -156,12 +140,12 @@ module _ (ws : List ℕ) (l : ListIn ws) where
   stored-is = rw (le-ltb textBytes (length text) text-short, kept-none, append-nil, text-reads .numbers)
 
   pub made-is : made (textOf (registers ws) (numbersOf ws)) ≡ toBytes ws (length ws)
-  unfolding madeOf madeAs text
+  unfolding madeOf told text
   made-is = rw (scan-is, stored-is, read-back ws l maxWords (omega (arith, l .head .size, l .head .few)))
 
 -- what is shown of an accepted list
-shown-is : (ws : List ℕ) → IsAccepted ws → shownAs (reading ws (4 * maxPairs)) ≡ textOf (registers ws) (numbersOf ws)
-unfolding shownAs reading
+shown-is : (ws : List ℕ) → IsAccepted ws → told refusalLine shownDone (reading ws (4 * maxPairs)) ≡ textOf (registers ws) (numbersOf ws)
+unfolding told reading
 shown-is ws a =
     let few = accepted-in ws a .head .few in
     let room = one-passes 2 0 (le-ltb (4 * maxPairs) (4 * pairCount ws) (omega arith)) in

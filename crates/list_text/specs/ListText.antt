@@ -6,7 +6,7 @@ use lib.ListN.{length, getD, drop}
 use Rattle.timing.specs.Limits.{maxPairs}
 use Rattle.buffers.specs.Run.{run}
 use Rattle.words.specs.Bytes.{toBytes}
-use Rattle.refusals.specs.Reply.{Outcome, refused, done}
+use Rattle.refusals.specs.Reply.{told}
 use Rattle.list_format.specs.Read.{reading}
 use Rattle.list_format.specs.Write.{givenCount, writing}
 use Rattle.pieces.specs.Pieces.{number, space, newline}
@@ -30,24 +30,24 @@ pairLine xs k = fourLine (getD xs (4 * k) 0) (getD xs (4 * k + 1) 0) (getD xs (4
 unfoldable pub textOf : ℕ → List ℕ → List ℕ
 textOf n xs = number n newline ++ run (pairLine xs) (givenCount xs)
 
-unfoldable pub shownAs : Outcome → List ℕ
-shownAs (refused number place) = refusalLine number place
-shownAs (done returned stored) = textOf (getD returned 0 0) stored
+-- the count of registers is the first number that reading returns
+abbrev pub shownDone : List ℕ → List ℕ → List ℕ
+shownDone returned stored = textOf (getD returned 0 0) stored
 
 -- what is shown for the bytes of a list
 abbrev pub shown : List ℕ → List ℕ
-shown bs = shownAs (reading (listOf bs) (4 * maxPairs))
+shown bs = told refusalLine shownDone (reading (listOf bs) (4 * maxPairs))
 
 -- ---- from a text to the bytes of its list
 
-unfoldable pub madeAs : Outcome → List ℕ
-madeAs (refused number place) = refusalLine number place
-madeAs (done returned stored) = toBytes stored (length stored)
+-- the bytes of all words that writing stores
+abbrev pub madeDone : List ℕ → List ℕ → List ℕ
+madeDone returned stored = toBytes stored (length stored)
 
 -- from the numbers of a text: the count of registers, then four for each pair
 unfoldable pub madeOf : Scanned → List ℕ → List ℕ
 madeOf (Faulty fault line) xs = faultLine fault line
-madeOf (Numbers count) xs = madeAs (writing (getD xs 0 0) (drop 1 xs) maxWords)
+madeOf (Numbers count) xs = told refusalLine madeDone (writing (getD xs 0 0) (drop 1 xs) maxWords)
 
 -- what is made of a text
 abbrev pub made : List ℕ → List ℕ

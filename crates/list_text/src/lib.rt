@@ -1,14 +1,15 @@
 // A delay list as plain text, and back. What `show` writes, `make` reads back to the same bytes: `proofs/RoundTrip.antt`.
 // The contracts cite `specs/ListText.antt`.
-ghost use mathlib.Core.Path.{_≡_};
 ghost use Prim.Native.Nat.{_+_, _*_, _≤_};
 ghost use lib.ListN.{length};
 ghost use Rattle.pieces.specs.Pieces.{Put};
+ghost use Rattle.refusals.specs.Reply.{told};
+ghost use Rattle.plain_words.specs.PlainWords.{refusalLine};
 ghost use Rattle.list_format.specs.Read.{reading};
-ghost use Rattle.list_format.specs.Write.{givenCount, writing};
+ghost use Rattle.list_format.specs.Write.{writing};
 ghost use Rattle.list_bytes.specs.ListBytes.{maxWords, maxBytes};
 ghost use Rattle.timing.specs.Limits.{maxPairs};
-ghost use Rattle.list_text.specs.ListText.{fourLine, pairLine, textOf, shownAs, shown, madeAs, made};
+ghost use Rattle.list_text.specs.ListText.{fourLine, pairLine, textOf, shownDone, shown, madeDone, made};
 ghost use Rattle.buffers.specs.Run.{run};
 ghost use Rattle.words.specs.Bytes.{toBytes};
 use list_bytes::MAX_BYTES;
@@ -72,7 +73,7 @@ fn put_list(text: &mut [u8], n: u32, numbers: &[u32]) -> usize
 // The text for a run of words.
 fn put_words(text: &mut [u8], words: &[u32]) -> usize
     requires { ⌜ 84 * maxPairs + 133 ≤ length (now text) ⌝ }
-    ensures { λ r. ⌜ Put (84 * maxPairs + 133) (shownAs (reading (now (words .entry)) (4 * maxPairs))) (now (text .entry)) 0 (now (text .exit)) r ⌝ }
+    ensures { λ r. ⌜ Put (84 * maxPairs + 133) (told refusalLine shownDone (reading (now (words .entry)) (4 * maxPairs))) (now (text .entry)) 0 (now (text .exit)) r ⌝ }
 {
     let mut numbers = [0u32; PAIR_NUMBERS];
     match read_list::read(words, &mut numbers) {
@@ -106,7 +107,7 @@ fn put_bytes(out: &mut [u8], words: &[u32]) -> usize
 // The bytes of the list that the numbers make.
 fn put_made(out: &mut [u8], n: u32, numbers: &[u32]) -> usize
     requires { ⌜ maxBytes ≤ length (now out) ⌝ }
-    ensures { λ r. ⌜ Put maxBytes (madeAs (writing n (now (numbers .entry)) maxWords)) (now (out .entry)) 0 (now (out .exit)) r ⌝ }
+    ensures { λ r. ⌜ Put maxBytes (told refusalLine madeDone (writing n (now (numbers .entry)) maxWords)) (now (out .entry)) 0 (now (out .exit)) r ⌝ }
 {
     let mut words = [0u32; MAX_WORDS];
     match write_list::write(n, numbers, &mut words) {

@@ -53,9 +53,9 @@ module _ {w : ℕ} {p was now : List ℕ} {at next : ℕ} (a : Put w p was at no
   pub put-within : {v : ℕ} → length p ≤ v → Put v p was at now next
   put-within h = record { most = h; room = a .room; after = a .after; is = a .is }
 
--- a buffer filled from its first place on
-pub put-over : {w : ℕ} {p was now : List ℕ} {next : ℕ} → Put w p was 0 now next → now ≡ over p was
-put-over a = a .is
+-- the piece that f has for y serves for every x that is y
+pub put-as : {A : Type 0} (f : A → List ℕ) (v : ℕ) {x y : A} {w at next : ℕ} {was now : List ℕ} → x ≡ y → Put w (f y) was at now next → w ≤ v → Put v (f x) was at now next
+put-as f v e put h = rw e (put-within put (omega (arith, put .most)))
 
 -- ---- a loop that stores piece after piece, each of at most w bytes
 
@@ -99,5 +99,9 @@ bytes-end {bytes} l h =
     put-within (rw (bytes-front bytes (length bytes) (omega arith), take-length bytes) at (listing-end l h)) (omega arith)
 
 -- what was stored from the first place on can be lent
-pub put-lent : {w next : ℕ} {p was now : List ℕ} → Put w p was 0 now next → next ≤ length now
-put-lent put = omega (arith, put-size put, put .room, put .after)
+module _ {w next : ℕ} {p was now : List ℕ} (put : Put w p was 0 now next) where
+  pub put-lent : next ≤ length now
+  put-lent = omega (arith, put-size put, put .room, put .after)
+
+  pub lent-size : next ≡ length (take next now)
+  lent-size = sym (length-take-le next now put-lent)

@@ -43,6 +43,10 @@ space = 32
 abbrev pub newline : ℕ
 newline = 10
 
+-- the number and the place of a refusal, and the byte that ends them
+unfoldable pub refusedAt : ℕ → ℕ → ℕ → List ℕ
+refusedAt number place end = named (letters "refused ") number space ++ named (letters "at ") place end
+
 -- a piece of text of at most w bytes was stored from `at` on, in a buffer that held `was` and holds `now`; the place after it is `next`
 pub record Put (w : ℕ) (piece was : List ℕ) (at : ℕ) (now : List ℕ) (next : ℕ) : Type 0 where
   pub most : length piece ≤ w

@@ -4,7 +4,7 @@
 ghost use mathlib.Core.List.{[], _∷_};
 ghost use Prim.Native.Nat.{_+_, _≤_, _<_};
 ghost use lib.ListN.{length};
-ghost use Rattle.pieces.specs.Pieces.{digit, decimal, number, named, Put};
+ghost use Rattle.pieces.specs.Pieces.{digit, decimal, number, named, refusedAt, Put};
 
 fn put_byte(text: &mut [u8], at: usize, byte: u8) -> usize
     requires { ⌜ at < length (now text) ⌝ }
@@ -62,4 +62,13 @@ pub fn put_named(text: &mut [u8], at: usize, name: &[u8], n: u64, end: u8) -> us
 {
     let last = put_bytes(text, at, name);
     put_number(text, last, n, end)
+}
+
+// The number and the place of a refusal, and the byte that ends them, from the first place on.
+pub fn put_refused(text: &mut [u8], number: u32, place: usize, end: u8) -> usize
+    requires { ⌜ 53 ≤ length (now text) ⌝ }
+    ensures { λ r. ⌜ Put 53 (refusedAt number place end) (now (text .entry)) 0 (now (text .exit)) r ⌝ }
+{
+    let at = put_named(text, 0, b"refused ", number as u64, b' ');
+    put_named(text, at, b"at ", place as u64, end)
 }

@@ -1,22 +1,24 @@
 -- The words for a number, stored.
 use Prim.Native.Nat.{ℕ, _≤_}
-use mathlib.Core.List.{List}
-use mathlib.Core.Path.{_≡_}
-use lib.ListN.{length}
+use Prim.Native.String.{String}
+use mathlib.Core.List.{List, [], _∷_}
+use mathlib.Core.Path.{_≡_, refl}
+use native.Mathlib.Omega.{arith}
 use borrow.Author.Tests.{ne-eqb}
 use Rattle.pieces.specs.Pieces.{letters, Put}
 use Rattle.pieces.proofs.PutLaws.{put-within}
-use Rattle.plain_words.specs.PlainWords.{meaning, trouble}
+use Rattle.plain_words.specs.PlainWords.{wordsFor}
 
--- the words p that f has for a number
-pub worded : (f : ℕ → List ℕ) (number : ℕ) {w at next : ℕ} {p was now : List ℕ} → f number ≡ p → length p ≤ 80 → Put w p was at now next → Put 80 (f number) was at now next
-worded f number e h put = rw e (put-within put h)
+-- no row has the number
+abbrev pub NoRow : List (ℕ × String) → ℕ → Type 0
+NoRow [] number = Unit {0}
+NoRow (row ∷ rows) number = (number ≡ row .0 → ⊥) × NoRow rows number
 
--- those of a number that no arm names
-pub other-meaning : (x : ℕ) → (x ≡ 11 → ⊥) → (x ≡ 12 → ⊥) → (x ≡ 13 → ⊥) → (x ≡ 14 → ⊥) → (x ≡ 15 → ⊥) → (x ≡ 16 → ⊥) → (x ≡ 17 → ⊥) → (x ≡ 3 → ⊥) → meaning x ≡ letters " a buffer is too short\n"
-unfolding meaning
-other-meaning x h1 h2 h3 h4 h5 h6 h7 h8 = rw (ne-eqb x 11 h1, ne-eqb x 12 h2, ne-eqb x 13 h3, ne-eqb x 14 h4, ne-eqb x 15 h5, ne-eqb x 16 h6, ne-eqb x 17 h7, ne-eqb x 3 h8)
+are-others : (rows : List (ℕ × String)) (others : String) (number : ℕ) → NoRow rows number → wordsFor rows others number ≡ letters others
+unfolding wordsFor
+are-others [] others number h = refl
+are-others ((k, words) ∷ rows) others number h = rw (ne-eqb number k (h .0)) (are-others rows others number (h .1))
 
-pub other-trouble : (x : ℕ) → (x ≡ 1 → ⊥) → (x ≡ 2 → ⊥) → (x ≡ 3 → ⊥) → (x ≡ 4 → ⊥) → (x ≡ 5 → ⊥) → (x ≡ 6 → ⊥) → trouble x ≡ letters " the text is longer than 131072 bytes\n"
-unfolding trouble
-other-trouble x h1 h2 h3 h4 h5 h6 = rw (ne-eqb x 1 h1, ne-eqb x 2 h2, ne-eqb x 3 h3, ne-eqb x 4 h4, ne-eqb x 5 h5, ne-eqb x 6 h6)
+pub others-said : (rows : List (ℕ × String)) (others : String) (number : ℕ) {w at next : ℕ} {was now : List ℕ} → NoRow rows number → Put w (letters others) was at now next → w ≤ 80
+    → Put 80 (wordsFor rows others number) was at now next
+others-said rows others number none put h = rw (are-others rows others number none) (put-within put (omega (arith, put .most)))

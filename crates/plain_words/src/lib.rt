@@ -6,6 +6,7 @@ ghost use Rattle.pieces.specs.Pieces.{Put};
 ghost use Rattle.plain_words.specs.PlainWords.{meaning, trouble, refusalLine, faultLine};
 use pieces::put_bytes;
 use pieces::put_named;
+use pieces::put_refused;
 
 fn put_meaning(text: &mut [u8], at: usize, number: u32) -> usize
     requires { ⌜ at + 80 ≤ length (now text) ⌝ }
@@ -80,9 +81,8 @@ pub fn put_refusal(text: &mut [u8], number: u32, place: usize) -> usize
     requires { ⌜ 133 ≤ length (now text) ⌝ }
     ensures { λ r. ⌜ Put 133 (refusalLine number place) (now (text .entry)) 0 (now (text .exit)) r ⌝ }
 {
-    let a = put_named(text, 0, b"refused ", number as u64, b' ');
-    let b = put_named(text, a, b"at ", place as u64, b':');
-    put_meaning(text, b, number)
+    let a = put_refused(text, number, place, b':');
+    put_meaning(text, a, number)
 }
 
 // The line for a text that cannot be read.

@@ -9,6 +9,7 @@ use lib.ListN.{length, getD}
 use lib.Seq.{ext-getD}
 use borrow.Author.Count.{below-none, below-more}
 use borrow.Author.Tests.{ltb-true}
+use Rattle.timing.proofs.RuleLaws.{and-true}
 use Rattle.refusals.specs.Checks.{Check, orCheck, faultAfter, eachCheck}
 use Rattle.refusals.specs.declared.Fault.{Fault}
 use Rattle.refusals.specs.declared.Fault.the-variants.{None, At}
@@ -47,11 +48,6 @@ told-apart (numbers xs) (numbers ys) ha hb ta tb = ap numbers (same-values xs ys
 unfoldable numbered : List Check → Bool
 numbered [] = true
 numbered (c ∷ cs) = ltb 0 (c .1) && numbered cs
-
-and-true : (a b : Bool) → a && b ≡ true → (a ≡ true) × (b ≡ true)
-and-true true true e = (refl, refl)
-and-true true false e = (refl, e)
-and-true false b e = (e, absurd (let z : _≡_ {A = ℕ} 0 1 = cc in omega arith))
 
 append-numbered : (xs ys : List Check) → numbered xs ≡ true → numbered ys ≡ true → numbered (xs ++ ys) ≡ true
 unfolding numbered

@@ -13,7 +13,8 @@ ghost use Rattle.checker.specs.Check.{checking, ruleNumber};
 ghost use Rattle.free_schedule.specs.FreeCall.{freeing};
 ghost use Rattle.split.specs.Splitting.{splitting};
 ghost use Rattle.planner.specs.PlanCall.{planning};
-ghost use Rattle.report.specs.Report.{ReportedAs};
+ghost use Rattle.pieces.specs.Pieces.{Put};
+ghost use Rattle.report.specs.Report.{textPlaces, report};
 ghost use Rattle.planner_c.specs.Coded.{Told};
 use checker::Checking;
 use checker::Rule;
@@ -170,7 +171,7 @@ pub extern "C" fn darnerflax_plan(
 // The text of the plan of a list's bytes, in the first places of `text`. The count of its bytes is returned.
 #[no_mangle]
 pub extern "C" fn darnerflax_report(bytes: &[u8], text: &mut [u8; report::TEXT_PLACES]) -> usize
-    ensures { λ r. ⌜ ReportedAs (now (bytes .entry)) (now (text .entry)) (now (text .exit)) r ⌝ }
+    ensures { λ r. ⌜ Put textPlaces (report (now (bytes .entry))) (now (text .entry)) 0 (now (text .exit)) r ⌝ }
 {
     report::report(bytes, text)
 }

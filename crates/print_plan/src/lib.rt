@@ -1,7 +1,7 @@
 // The program's one step: a delay list from standard input, its plan as text to standard output.
 use libc::STDIN_FILENO;
 use libc::STDOUT_FILENO;
-use report::MAX_BYTES;
+use list_bytes::MAX_BYTES;
 use report::TEXT_PLACES;
 
 // Reads as far as it takes to know that a list is too long, and prints the plan or the refusal.

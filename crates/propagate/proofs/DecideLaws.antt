@@ -1,12 +1,13 @@
 -- From a blank scratch to the first split.
-use mathlib.Core.Path.{_≡_, refl, sym, _∙_, ap}
+use mathlib.Core.Path.{_≡_, sym, _∙_, ap}
 use mathlib.Core.Bool.{Bool, true, false}
 use mathlib.Core.List.{List, _++_}
-use Prim.Native.Nat.{ℕ, zero, suc, _+_, _-_, _*_}
+use Prim.Native.Nat.{ℕ, _+_, _-_, _*_}
 use native.Mathlib.Omega.{arith}
 use lib.ListN.{length, getD, take, drop, replicate, length-append, length-drop, length-replicate}
 use lib.Seq.{drop-at, take-at, take-take, take-append-le, drop-drop, length-take-le}
 use Rattle.buffers.proofs.FillLaws.{drop-further}
+use Rattle.buffers.proofs.PadLaws.{zero-at}
 use Rattle.buffers.specs.Over.{over}
 use Rattle.list_format.specs.Lists.{pairCount, pairs}
 use Rattle.list_format.proofs.ListLaws.{each-pair}
@@ -55,12 +56,7 @@ module _ (t s : ℕ) (ws : List ℕ) (n : ℕ) where
     working c w = record { period = t; offset = s; flags = start .flags; works = w }
 
     blank : (c : List Bool) → Agrees c (take n S₁)
-    blank c i z = absurd (z (ap (λ (M : List ℕ). getD M i 0) (start .blank) ∙ none n i))
-      where
-        none : (n i : ℕ) → _≡_ {A = ℕ} (getD (replicate n 0) i 0) 0
-        none zero i = refl
-        none (suc n) zero = refl
-        none (suc n) (suc i) = none n i
+    blank c i z = absurd (z (ap (λ (M : List ℕ). getD M i 0) (start .blank) ∙ zero-at n i))
 
     size : Propagated ws n S₁ S₂ true → length (take n S₂) ≡ n
     size h = length-take-le n S₂ (omega (arith, h .carried .size, start .size, ready .room))

@@ -48,6 +48,10 @@ numbers-none (At number place) o e =
     let z : _≡_ {A = ℕ} 0 1 = cc in
     absurd (omega arith)
 
+-- and the outcome is then the one after all checks
+pub numbers-done : (cs : List Check) (o : Outcome) {xs : List ℕ} → numbers xs ≡ replyOf (answered cs o) → answered cs o ≡ o
+numbers-done cs o e = answered-done cs o (numbers-none (firstFault cs) o e)
+
 -- ---- from the reply to what is told
 
 module _ {A : Type 0} (f : ℕ → ℕ → A) (g : List ℕ → List ℕ → A) where

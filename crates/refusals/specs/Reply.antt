@@ -1,8 +1,7 @@
 -- What a call comes to: a refusal, or the numbers returned and what the answer buffer then holds.
 use Prim.Native.Nat.{ℕ}
 use mathlib.Core.List.{List}
-use lib.ListN.{replicate}
-use Rattle.buffers.specs.Over.{over}
+use Rattle.buffers.specs.Over.{over, zeros}
 use Rattle.refusals.specs.Checks.{Check, firstFault}
 use Rattle.refusals.specs.declared.Fault.{Fault}
 use Rattle.refusals.specs.declared.Fault.the-variants.{None, At}
@@ -29,7 +28,7 @@ bufferAfter (done returned stored) buffer = over stored buffer
 -- the scratch afterwards, of which a call takes the first k places: a refusal keeps it whole, any other result leaves zeros there
 unfoldable pub scratchAfter : Outcome → ℕ → List ℕ → List ℕ
 scratchAfter (refused number place) k scratch = scratch
-scratchAfter (done returned stored) k scratch = over (replicate k 0) scratch
+scratchAfter (done returned stored) k scratch = over (zeros k) scratch
 
 -- what a call comes to, put in words: by f if it is refused, by g if it is done
 unfoldable pub told : {A : Type 0} → (ℕ → ℕ → A) → (List ℕ → List ℕ → A) → Outcome → A

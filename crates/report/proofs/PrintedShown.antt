@@ -6,16 +6,17 @@ use Rattle.search.specs.Search.{firstFrom, least}
 use Rattle.buffers.specs.Run.{run}
 use Rattle.words.specs.Word.{total}
 use Rattle.refusals.specs.Checks.{orCheck, faultAfter, eachCheck}
-use Rattle.refusals.specs.Reply.{unless}
+use Rattle.refusals.specs.Reply.{unless, told}
 use Rattle.list_format.specs.Lists.{pairsFrom}
 use Rattle.free_laws.specs.Free.{relax, round, rounds, freeAt, freeWorks, common, freePeriod, freeSchedule}
 use Rattle.split_laws.specs.Split.{works, splits, firstOf, firstSplit}
 use Rattle.plan_laws.specs.Plan.{splitWorks, twoWorks, twoPeriod, twoOffset, twoSplit, twoTimings}
 use Rattle.planner.specs.PlanCall.{planning}
-use Rattle.pieces.specs.Pieces.{letters, decimalIn, decimal}
-use Rattle.report.specs.Report.{periodsLine, registerLines, refusalLine, textOf, report}
+use Rattle.list_bytes.specs.ListBytes.{listOf}
+use Rattle.pieces.specs.Pieces.{letters, decimalIn, decimal, refusedAt}
+use Rattle.report.specs.Report.{periodsLine, registerLines, report}
 use Rattle.report.specs.Printed.{table}
 
 pub shown : map (λ p. report (p .bytes)) table ≡ map (λ p. letters (p .text)) table
-unfolding table admissible firstFrom least run total orCheck faultAfter eachCheck unless pairsFrom relax round rounds freeAt freeWorks common freePeriod freeSchedule works splits firstOf firstSplit splitWorks twoWorks twoPeriod twoOffset twoSplit twoTimings planning decimalIn decimal periodsLine registerLines refusalLine textOf report
+unfolding table admissible firstFrom least run total orCheck faultAfter eachCheck unless pairsFrom relax round rounds freeAt freeWorks common freePeriod freeSchedule works splits firstOf firstSplit splitWorks twoWorks twoPeriod twoOffset twoSplit twoTimings planning decimalIn decimal refusedAt periodsLine registerLines told listOf report
 shown = refl

@@ -1,18 +1,14 @@
 -- The text of a plan: what is printed for the bytes of a delay list.
-use Prim.Native.Nat.{ℕ, _+_, _*_, _/_, _%_, _≤_}
-use mathlib.Core.List.{List, [], _∷_, _++_}
-use mathlib.Core.Path.{_≡_}
-use lib.Dec.{ltb}
-use lib.ListN.{length, getD}
-use Rattle.timing.specs.Limits.{maxRegisters, maxPairs, scratchPlaces}
+use Prim.Native.Nat.{ℕ, _+_, _*_}
+use mathlib.Core.List.{List, _++_}
+use lib.ListN.{getD}
+use Rattle.timing.specs.Limits.{maxRegisters, maxScratch}
 use Rattle.buffers.specs.Run.{run}
-use Rattle.buffers.specs.Over.{over}
-use Rattle.words.specs.Bytes.{toWords}
-use Rattle.refusals.specs.Checks.{Check}
-use Rattle.refusals.specs.Reply.{Outcome, refused, done, answered}
-use Rattle.list_format.specs.Lists.{registers, pairPlace, differ}
+use Rattle.refusals.specs.Reply.{Outcome, told}
+use Rattle.list_format.specs.Lists.{registers}
+use Rattle.list_bytes.specs.ListBytes.{listOf}
 use Rattle.planner.specs.PlanCall.{planning}
-use Rattle.pieces.specs.Pieces.{letters, number, named, space, newline}
+use Rattle.pieces.specs.Pieces.{letters, number, named, refusedAt, space, newline}
 
 -- ---- the lines
 
@@ -38,13 +34,8 @@ registerLines n xs = run (lineOf n xs) n
 abbrev pub planLines : ℕ → List ℕ → List ℕ → List ℕ
 planLines n returned stored = periodsLine returned ++ registerLines n stored
 
-unfoldable pub refusalLine : ℕ → ℕ → List ℕ
-refusalLine number place = named (letters "refused ") number space ++ named (letters "at ") place newline
-
--- what a call for the plan of n registers comes to, as text
-unfoldable pub textOf : ℕ → Outcome → List ℕ
-textOf n (refused number place) = refusalLine number place
-textOf n (done returned stored) = planLines n returned stored
+abbrev pub refusalLine : ℕ → ℕ → List ℕ
+refusalLine number place = refusedAt number place newline
 
 -- places enough for any text: 20 digits for each number
 abbrev pub textPlaces : ℕ
@@ -52,35 +43,10 @@ textPlaces = 32_768
 
 -- ---- from the bytes
 
--- the bytes of the longest list: 24,584
-abbrev pub maxBytes : ℕ
-maxBytes = 4 * (pairPlace maxPairs + 1)
-
--- the words that the bytes make
-abbrev pub listOf : List ℕ → List ℕ
-listOf bs = toWords bs (length bs / 4)
-
--- 11: more bytes than the longest list has, or not four to a word
-abbrev pub byteChecks : ℕ → List Check
-byteChecks count =
-    (ltb maxBytes count, 11, 0)
-    ∷ (differ (count % 4) 0, 11, 0)
-    ∷ []
-
 -- the call for the plan of a list, with room for the largest
 abbrev pub planOf : List ℕ → Outcome
-planOf ws = planning ws (2 * maxRegisters) (scratchPlaces maxRegisters maxPairs)
-
--- the bytes are counted before all else
-abbrev pub reporting : List ℕ → Outcome
-reporting bs = answered (byteChecks (length bs)) (planOf (listOf bs))
+planOf ws = planning ws (2 * maxRegisters) maxScratch
 
 -- the text for the bytes of a list
 unfoldable pub report : List ℕ → List ℕ
-report bs = textOf (registers (listOf bs)) (reporting bs)
-
--- the text for the bytes bs was stored in a buffer that held `was` and holds `now`
-pub record ReportedAs (bs was now : List ℕ) (count : ℕ) : Type 0 where
-  pub size : count ≡ length (report bs)
-  pub room : count ≤ length now
-  pub text : now ≡ over (report bs) was
+report bs = told refusalLine (planLines (registers (listOf bs))) (planOf (listOf bs))

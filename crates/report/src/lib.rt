@@ -1,40 +1,25 @@
 // From the bytes of a delay list to the text of its plan.
 // The contracts cite `specs/Report.antt`. With 20 digits for each number, line one has at most 107 bytes, the line of a register 63 and a refusal 53.
-ghost use mathlib.Core.Path.{_≡_};
 ghost use mathlib.Core.List.{[], _∷_};
 ghost use Prim.Native.Nat.{_+_, _*_, _≤_};
 ghost use lib.ListN.{length};
 ghost use Rattle.pieces.specs.Pieces.{Put};
-ghost use Rattle.report.specs.Report.{periodsLine, registerLine, registerLines, planLines, refusalLine, textOf, textPlaces, maxBytes, listOf, byteChecks, planOf, ReportedAs};
-ghost use Rattle.refusals.specs.Checks.{firstFault};
+ghost use Rattle.report.specs.Report.{periodsLine, registerLine, registerLines, planLines, refusalLine, textPlaces, planOf, report};
+ghost use Rattle.refusals.specs.Reply.{told};
 ghost use Rattle.list_format.specs.Lists.{registers};
+use list_bytes::MAX_WORDS;
 use pieces::put_named;
 use pieces::put_number;
+use pieces::put_refused;
 use planner::Planning;
-use refusals::Fault;
-use timing::MAX_PAIRS;
 use timing::MAX_REGISTERS;
+use timing::MAX_SCRATCH;
 
-// The words and the bytes of the longest list.
-const MAX_WORDS: usize = 3 * MAX_PAIRS + 2;
-
-pub const MAX_BYTES: usize = 4 * MAX_WORDS;
-
-// The places that the plan of the largest list takes in the answer buffer, and of scratch.
+// The places that the plan of the largest list takes in the answer buffer.
 const ANSWER_PLACES: usize = 2 * MAX_REGISTERS as usize;
-
-const SCRATCH_PLACES: usize = 6 * MAX_REGISTERS as usize + 4 * MAX_PAIRS;
 
 // Places enough for any text.
 pub const TEXT_PLACES: usize = 32_768;
-
-fn put_refusal(text: &mut [u8], number: u32, place: usize) -> usize
-    requires { ⌜ 53 ≤ length (now text) ⌝ }
-    ensures { λ r. ⌜ Put 53 (refusalLine number place) (now (text .entry)) 0 (now (text .exit)) r ⌝ }
-{
-    let at = put_named(text, 0, b"refused ", number as u64, b' ');
-    put_named(text, at, b"at ", place as u64, b'\n')
-}
 
 // Line one: the three periods and the offset.
 fn put_periods(text: &mut [u8], common: u32, free: u32, two: u32, offset: u32) -> usize
@@ -91,12 +76,12 @@ fn put_planned(
 // The text for a run of words.
 fn put_text(text: &mut [u8], words: &[u32]) -> usize
     requires { ⌜ textPlaces ≤ length (now text) ⌝ }
-    ensures { λ r. ⌜ Put textPlaces (textOf (registers (now (words .entry))) (planOf (now (words .entry)))) (now (text .entry)) 0 (now (text .exit)) r ⌝ }
+    ensures { λ r. ⌜ Put textPlaces (told refusalLine (planLines (registers (now (words .entry)))) (planOf (now (words .entry)))) (now (text .entry)) 0 (now (text .exit)) r ⌝ }
 {
     let mut answer = [0u32; ANSWER_PLACES];
-    let mut scratch = [0u32; SCRATCH_PLACES];
+    let mut scratch = [0u32; MAX_SCRATCH];
     match planner::plan(words, &mut answer, &mut scratch) {
-        Planning::Refused(number, place) => put_refusal(text, number, place),
+        Planning::Refused(number, place) => put_refused(text, number, place, b'\n'),
         Planning::Planned(common, free, two, offset) => {
             let n = words::head_registers(words[0]) as usize;
             put_planned(text, common, free, two, offset, &answer, n)
@@ -104,32 +89,11 @@ fn put_text(text: &mut [u8], words: &[u32]) -> usize
     }
 }
 
-// The refusal that the count of bytes alone calls for.
-fn byte_fault(count: usize) -> Fault
-    ensures { λ r. ⌜ r ≡ firstFault (byteChecks count) ⌝ }
-{
-    Fault::None
-        .or(count > MAX_BYTES, 11, 0)
-        .or(count % 4 != 0, 11, 0)
-}
-
-// The text for the bytes of a list that is not too long.
-fn put_list(text: &mut [u8], bytes: &[u8]) -> usize
-    requires { ⌜ (textPlaces ≤ length (now text)) × (length (now bytes) ≤ maxBytes) ⌝ }
-    ensures { λ r. ⌜ Put textPlaces (textOf (registers (listOf (now (bytes .entry)))) (planOf (listOf (now (bytes .entry))))) (now (text .entry)) 0 (now (text .exit)) r ⌝ }
-{
-    let mut words = [0u32; MAX_WORDS];
-    let count = bytes.len() / 4;
-    words::to_words(bytes, count, &mut words);
-    put_text(text, &words[..count])
-}
-
 // The text for the bytes of a list, in the first places of `text`; later places keep their contents. The count of its bytes is returned.
 pub fn report(bytes: &[u8], text: &mut [u8; TEXT_PLACES]) -> usize
-    ensures { λ r. ⌜ ReportedAs (now (bytes .entry)) (now (text .entry)) (now (text .exit)) r ⌝ }
+    ensures { λ r. ⌜ Put textPlaces (report (now (bytes .entry))) (now (text .entry)) 0 (now (text .exit)) r ⌝ }
 {
-    match byte_fault(bytes.len()) {
-        Fault::At(number, place) => put_refusal(text, number, place),
-        Fault::None => put_list(text, bytes),
-    }
+    let mut words = [0u32; MAX_WORDS];
+    let count = list_bytes::load(bytes, &mut words);
+    put_text(text, &words[..count])
 }

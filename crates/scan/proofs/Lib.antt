@@ -3,3 +3,4 @@ pub mod StateLaws
 pub mod WalkLaws
 pub mod ReadsLaws
 pub mod UnlinedLaws
+pub mod StoredLaws

@@ -28,3 +28,7 @@ maxTiming = 511_000_000
 -- the places of scratch that a split or a plan of n registers and m pairs takes: the first 6n serve the registers, the rest the pairs
 abbrev pub scratchPlaces : ℕ → ℕ → ℕ
 scratchPlaces n m = 6 * n + 4 * m
+
+-- those of the largest list
+abbrev pub maxScratch : ℕ
+maxScratch = scratchPlaces maxRegisters maxPairs

@@ -17,6 +17,9 @@ pub const MAX_OFFSET: u32 = 1_000_000;
 
 pub const MAX_TIMING: u32 = 511_000_000;
 
+// The places of scratch that the largest list takes.
+pub const MAX_SCRATCH: usize = 6 * MAX_REGISTERS as usize + 4 * MAX_PAIRS;
+
 // The launch and the capture register, and the least and the greatest delay between them.
 pub struct Pair {
     pub launch: u32,

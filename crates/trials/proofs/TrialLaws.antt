@@ -12,7 +12,7 @@ use Rattle.timing.specs.Rules.{admissible, Each, InRange}
 use Rattle.timing.specs.Limits.{maxDelay, maxPeriod, maxTiming}
 use Rattle.list_format.specs.Lists.{registers, pairs, IsAccepted}
 use Rattle.list_format.proofs.ListLaws.{accepted-in, pairs-in-range, pairs-within}
-use Rattle.free_laws.specs.Free.{zeros}
+use Rattle.buffers.specs.Over.{zeros}
 use Rattle.free_laws.proofs.RuleList.{Meets, rules, within, admissible→meets, meets→admissible}
 use Rattle.free_laws.proofs.Lists.{each-map}
 use Rattle.free_laws.proofs.Sweep.{Below, zeros-below}

@@ -2,7 +2,7 @@
 // The contracts cite `specs/Trial.antt` and the laws of `free_laws`.
 ghost use mathlib.Core.Path.{_≡_};
 ghost use lib.ListN.{length};
-ghost use Rattle.free_laws.specs.Free.{zeros};
+ghost use Rattle.buffers.specs.Over.{zeros};
 ghost use Rattle.trials.specs.Trial.{Trial, Judged, Sought, Tried};
 use rounds::PARENTS;
 

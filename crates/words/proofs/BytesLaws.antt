@@ -2,10 +2,10 @@
 use Prim.Native.Nat.{ℕ, _+_, _*_, _/_, _%_, _^_, _<_}
 use mathlib.Core.List.{List, [], _∷_}
 use mathlib.Core.Path.{_≡_, refl, sym, _∙_, ap}
-use native.Mathlib.Nat.{div-one, div-add-mod', div-div-eq-div-mul}
+use native.Mathlib.Nat.{one-mul, div-one, div-add-mod', div-div-eq-div-mul}
 use native.Mathlib.Omega.{arith}
 use lib.ListN.{length, getD, take, drop}
-use Rattle.buffers.proofs.RunLaws.{run-at, run-is, take-stretch}
+use Rattle.buffers.proofs.RunLaws.{run-length, run-at, run-is, take-stretch}
 use Rattle.words.specs.Word.{field}
 use Rattle.words.specs.Bytes.{bytesOf, fromBytes, wordAt, toWords, toBytes}
 
@@ -37,6 +37,13 @@ module _ (a b c d : ℕ) (ha : a < 2 ^ 8) (hb : b < 2 ^ 8) (hc : c < 2 ^ 8) (hd 
 
   bytes-of-word : bytesOf (fromBytes a b c d) ≡ a ∷ b ∷ c ∷ d ∷ []
   bytes-of-word = rw (byte-0, byte-1, byte-2, byte-3)
+
+-- how many they are
+pub words-size : (bs : List ℕ) (k : ℕ) → length (toWords bs k) ≡ k
+words-size bs k = run-length (λ i. wordAt bs i ∷ []) 1 (λ i. refl) k ∙ one-mul k
+
+pub bytes-size : (ws : List ℕ) (k : ℕ) → length (toBytes ws k) ≡ 4 * k
+bytes-size ws k = run-length (λ i. bytesOf (getD ws i 0)) 4 (λ i. refl) k
 
 -- all words
 pub words-back : (ws : List ℕ) → ((k : ℕ) → getD ws k 0 < 2 ^ 32) → toWords (toBytes ws (length ws)) (length ws) ≡ ws

@@ -1,16 +1,9 @@
 -- The numbers of the text, and then the check.
-use mathlib.Core.Path.{sym}
-use lib.Seq.{length-take-le}
-use Rattle.check_text.proofs.CheckTextLaws.{text-faulty, numbers-room, text-numbers}
+use Rattle.scan.proofs.StoredLaws.{stored-fits, stored-lent}
+use Rattle.check_text.proofs.CheckTextLaws.{text-faulty, text-numbers}
 use borrow.Author.Needs.{needs}
 use Rattle.check_text.proofs.check_text.Statement.{statement}
 use Rattle.check_text.proofs.check_text.Tie as tie
-
-array-share-prefix-numbers : tie.Need-array-share-prefix-numbers
-array-share-prefix-numbers c = numbers-room (c .before .before .before .before .scan .ensures) (c .before .before .count .given .1)
-
-slice-aggregate-put-against : tie.Need-slice-aggregate-put-against
-slice-aggregate-put-against c = sym (length-take-le _ _ (numbers-room (c .before .before .before .before .before .scan .ensures) (c .before .before .before .count .given .1)))
 
 returns : tie.Need-returns
 returns c = text-faulty (c .before .before .before .before .before .scan .ensures) _ _ (c .before .before .before .fault .given .1) (c .put-fault .ensures)
@@ -26,8 +19,8 @@ check-text-spec =
     (λ c. search needs)
     (λ c κs. search needs)
     (λ c. search needs)
-    array-share-prefix-numbers
-    slice-aggregate-put-against
+    (λ c. stored-fits (c .before .before .before .before .scan .ensures) (c .before .before .count .given .1))
+    (λ c. stored-lent (c .before .before .before .before .before .scan .ensures) (c .before .before .before .count .given .1))
     (λ c κs. search needs)
     returns
     returns-2)

@@ -1,14 +1,8 @@
-use mathlib.Core.Path.{sym}
-use lib.Seq.{length-take-le}
+-- The words of the bytes, and then the check.
+use Rattle.list_bytes.proofs.LoadLaws.{loaded-size}
 use borrow.Author.Needs.{needs}
 use Rattle.check_text.proofs.put_against.Statement.{statement}
 use Rattle.check_text.proofs.put_against.Tie as tie
-
-slice-aggregate-put-checked : tie.Need-slice-aggregate-put-checked
-slice-aggregate-put-checked c = sym (length-take-le _ _ (c .before .before .load .ensures .room))
-
-returns : tie.Need-returns
-returns c = rw (c .before .before .before .before .before .load .ensures .words) at (c .before .before .put-checked .ensures)
 
 pub put-against-spec : {M : Type 1} → statement M
 put-against-spec =
@@ -16,7 +10,7 @@ put-against-spec =
     (tie.spec
     (λ c κs. search needs)
     (λ c. search needs)
-    slice-aggregate-put-checked
+    (λ c. loaded-size _ (c .before .before .load .ensures))
     (λ c κs. search needs)
     (λ c. search needs)
-    returns)
+    (λ c. rw (c .before .before .before .before .before .load .ensures .words) at (c .before .before .put-checked .ensures)))

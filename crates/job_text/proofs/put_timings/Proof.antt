@@ -13,34 +13,16 @@ Inv-loop text₀ at timings n last₀ r₀ text last r = Listing 42 (timingLine 
 abbrev μ-loop : tie.MeasureT-loop
 μ-loop text₀ at timings n last₀ r₀ text last r = n - r
 
-loop-holds : tie.Need-loop-holds Inv-loop μ-loop
-loop-holds c = listing-start (omega arith)
-
-put-timing-requires : tie.Need-put-timing-requires Inv-loop μ-loop
-put-timing-requires c κs = listing-room (c .before .before .before .loop .inv) (omega arith) (omega arith)
-
-loop-again : tie.Need-loop-again Inv-loop μ-loop
-loop-again c = listing-turn (c .before .before .before .before .before .before .loop .inv) (omega arith) (c .before .before .put-timing .ensures)
-
-same-length : tie.Need-same-length Inv-loop μ-loop
-same-length c = put-size (c .before .loop .inv .put)
-
-returns : tie.Need-returns Inv-loop μ-loop
-unfolding timingLines
-returns c = listing-end (c .before .loop .inv) (omega arith)
-
 pub put-timings-spec : {M : Type 1} → statement M
+unfolding timingLines
 put-timings-spec =
     tie.close
-    (tie.spec
-    Inv-loop
-    μ-loop
-    loop-holds
+    (tie.spec Inv-loop μ-loop (λ c. listing-start (omega arith))
     (λ c. search needs)
     (λ c. search needs)
-    put-timing-requires
+    (λ c κs. listing-room (c .before .before .before .loop .inv) (omega arith) (omega arith))
     (λ c. search needs)
     (λ c. search needs)
-    loop-again
-    same-length
-    returns)
+    (λ c. listing-turn (c .before .before .before .before .before .before .loop .inv) (omega arith) (c .before .before .put-timing .ensures))
+    (λ c. put-size (c .before .loop .inv .put))
+    (λ c. listing-end (c .before .loop .inv) (omega arith)))

@@ -1,15 +1,15 @@
 -- One law for each way to end.
 use native.Mathlib.Omega.{arith}
-use Rattle.list_bytes.proofs.LoadLaws.{load-long, load-odd, load-done}
+use Rattle.list_bytes.proofs.LoadLaws.{list-long, list-odd, load-none, load-done}
 use borrow.Author.Needs.{needs}
 use Rattle.list_bytes.proofs.load.Statement.{statement}
 use Rattle.list_bytes.proofs.load.Tie as tie
 
 returns : tie.Need-returns
-returns c = load-long _ _ (c .if1 .taken)
+returns c = load-none _ _ (list-long _ (c .if1 .taken))
 
 returns-2 : tie.Need-returns-2
-returns-2 c = load-odd _ _ (c .before .if1 .left) (c .if2 .taken)
+returns-2 c = load-none _ _ (list-odd _ (c .before .if1 .left) (c .if2 .taken))
 
 returns-3 : tie.Need-returns-3
 returns-3 c =

@@ -1,5 +1,6 @@
 -- The numbers of the text, and then the list that they make.
-use Rattle.list_text.proofs.ListTextLaws.{numbers-some, numbers-room, make-faulty, make-numbers}
+use Rattle.scan.proofs.StoredLaws.{stored-fits}
+use Rattle.list_text.proofs.ListTextLaws.{numbers-some, make-faulty, make-numbers}
 use borrow.Author.Needs.{needs}
 use Rattle.list_text.proofs.make.Statement.{statement}
 use Rattle.list_text.proofs.make.Tie as tie
@@ -11,7 +12,7 @@ part-put-made-start : tie.Need-part-put-made-start
 part-put-made-start c = numbers-some (c .before .before .before .before .before .scan .ensures) (c .before .before .before .count .given .1)
 
 part-put-made-end : tie.Need-part-put-made-end
-part-put-made-end c = numbers-room (c .before .before .before .before .before .scan .ensures) (c .before .before .before .count .given .1)
+part-put-made-end c = stored-fits (c .before .before .before .before .before .scan .ensures) (c .before .before .before .count .given .1)
 
 returns : tie.Need-returns
 returns c = make-faulty (c .before .before .before .before .before .scan .ensures) (c .before .before .before .fault .given .1) (c .put-fault .ensures)

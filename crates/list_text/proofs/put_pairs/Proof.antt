@@ -13,43 +13,16 @@ Inv-loop text₀ at numbers m last₀ k₀ text last k = Listing 84 (pairLine nu
 abbrev μ-loop : tie.MeasureT-loop
 μ-loop text₀ at numbers m last₀ k₀ text last k = m - k
 
-loop-holds : tie.Need-loop-holds Inv-loop μ-loop
-loop-holds c = listing-start (omega arith)
-
-put-pair-requires : tie.Need-put-pair-requires Inv-loop μ-loop
-put-pair-requires c κs = listing-room (c .before .before .before .before .before .before .loop .inv) (omega arith) (omega arith)
-
-loop-again : tie.Need-loop-again Inv-loop μ-loop
-loop-again c = listing-turn (c .before .before .before .before .before .before .before .before .before .loop .inv) (omega arith) (c .before .before .put-pair .ensures)
-
-same-length : tie.Need-same-length Inv-loop μ-loop
-same-length c = put-size (c .before .loop .inv .put)
-
-returns : tie.Need-returns Inv-loop μ-loop
-returns c = listing-end (c .before .loop .inv) (omega arith)
-
 pub put-pairs-spec : {M : Type 1} → statement M
 put-pairs-spec =
     tie.close
-    (tie.spec
-    Inv-loop
-    μ-loop
-    loop-holds
+    (tie.spec Inv-loop μ-loop (λ c. listing-start (omega arith))
+    (λ c. search needs) (λ c. search needs) (λ c. search needs) (λ c. search needs)
+    (λ c. search needs) (λ c. search needs) (λ c. search needs) (λ c. search needs)
+    (λ c. search needs) (λ c. search needs) (λ c. search needs) (λ c. search needs)
+    (λ c κs. listing-room (c .before .before .before .before .before .before .loop .inv) (omega arith) (omega arith))
     (λ c. search needs)
     (λ c. search needs)
-    (λ c. search needs)
-    (λ c. search needs)
-    (λ c. search needs)
-    (λ c. search needs)
-    (λ c. search needs)
-    (λ c. search needs)
-    (λ c. search needs)
-    (λ c. search needs)
-    (λ c. search needs)
-    (λ c. search needs)
-    put-pair-requires
-    (λ c. search needs)
-    (λ c. search needs)
-    loop-again
-    same-length
-    returns)
+    (λ c. listing-turn (c .before .before .before .before .before .before .before .before .before .loop .inv) (omega arith) (c .before .before .put-pair .ensures))
+    (λ c. put-size (c .before .loop .inv .put))
+    (λ c. listing-end (c .before .loop .inv) (omega arith)))

@@ -6,15 +6,12 @@ use Rattle.plain_words.proofs.put_refusal.Tie as tie
 
 returns : tie.Need-returns
 unfolding refusalLine
-returns c = put-then (c .before .before .before .before .before .before .before .before .before .before .before .put-named .ensures) (put-then (c .before .before .before .before .before .before .put-named2 .ensures) (c .before .before .put-meaning .ensures))
+returns c = put-then (c .before .before .before .before .before .before .put-refused .ensures) (c .before .before .put-meaning .ensures)
 
 pub put-refusal-spec : {M : Type 1} → statement M
 put-refusal-spec =
     tie.close
     (tie.spec
-    (λ c. search needs)
-    (λ c κs. search needs)
-    (λ c. search needs)
     (λ c κs. search needs)
     (λ c κs. search needs)
     (λ c. search needs)

@@ -13,37 +13,19 @@ Inv-loop text₀ at answer n last₀ r₀ text last r = Listing 63 (lineOf n ans
 abbrev μ-loop : tie.MeasureT-loop
 μ-loop text₀ at answer n last₀ r₀ text last r = n - r
 
-loop-holds : tie.Need-loop-holds Inv-loop μ-loop
-loop-holds c = listing-start (omega arith)
-
-put-register-requires : tie.Need-put-register-requires Inv-loop μ-loop
-put-register-requires c κs = listing-room (c .before .before .before .before .loop .inv) (omega arith) (omega arith)
-
-loop-again : tie.Need-loop-again Inv-loop μ-loop
-loop-again c = listing-turn (c .before .before .before .before .before .before .before .loop .inv) (omega arith) (c .before .before .put-register .ensures)
-
-same-length : tie.Need-same-length Inv-loop μ-loop
-same-length c = put-size (c .before .loop .inv .put)
-
-returns : tie.Need-returns Inv-loop μ-loop
-unfolding registerLines
-returns c = listing-end (c .before .loop .inv) (omega arith)
-
 pub put-registers-spec : {M : Type 1} → statement M
+unfolding registerLines
 put-registers-spec =
     tie.close
-    (tie.spec
-    Inv-loop
-    μ-loop
-    loop-holds
+    (tie.spec Inv-loop μ-loop (λ c. listing-start (omega arith))
     (λ c. search needs)
     (λ c. search needs)
     (λ c. search needs)
     (λ c. search needs)
     (λ c. search needs)
-    put-register-requires
+    (λ c κs. listing-room (c .before .before .before .before .loop .inv) (omega arith) (omega arith))
     (λ c. search needs)
     (λ c. search needs)
-    loop-again
-    same-length
-    returns)
+    (λ c. listing-turn (c .before .before .before .before .before .before .before .loop .inv) (omega arith) (c .before .before .put-register .ensures))
+    (λ c. put-size (c .before .loop .inv .put))
+    (λ c. listing-end (c .before .loop .inv) (omega arith)))

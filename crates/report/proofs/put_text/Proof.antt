@@ -24,7 +24,7 @@ put-planned-requires c κs =
 
 returns : tie.Need-returns
 returns c =
-    text-refused (c .before .before .before .before .before .before .before .before .before .plan .ensures) (c .before .before .before .before .before .number .given .1) (c .before .before .put-refusal .ensures)
+    text-refused (c .before .before .before .before .before .before .before .before .before .plan .ensures) (c .before .before .before .before .before .number .given .1) (c .before .before .put-refused .ensures)
 
 returns-2 : tie.Need-returns-2
 returns-2 c =

@@ -1,19 +1,13 @@
--- One law for each way to end.
-use mathlib.Core.Path.{sym, _∙_}
-use native.Mathlib.Omega.{arith}
-use Rattle.report.proofs.ReportLaws.{counted, reported-refused, reported-done}
+-- The words of the bytes, and then their text.
+use Rattle.list_bytes.proofs.LoadLaws.{loaded-size}
+use Rattle.report.specs.Report.{report}
 use borrow.Author.Needs.{needs}
 use Rattle.report.proofs.report.Statement.{statement}
 use Rattle.report.proofs.report.Tie as tie
 
-put-list-requires : tie.Need-put-list-requires
-put-list-requires c κs = (omega arith, counted _ (sym (c .before .before .before .byte-fault .ensures) ∙ c .before .enum-told .given .1))
-
 returns : tie.Need-returns
-returns c = reported-refused (sym (c .before .before .before .before .before .byte-fault .ensures) ∙ c .before .before .before .number .given .1) (c .put-refusal .ensures)
-
-returns-2 : tie.Need-returns-2
-returns-2 c = reported-done (sym (c .before .before .before .before .byte-fault .ensures) ∙ c .before .before .enum-told .given .1) (c .put-list .ensures)
+unfolding report
+returns c = rw (c .before .before .before .load .ensures .words) at (c .put-text .ensures)
 
 pub report-spec : {M : Type 1} → statement M
 report-spec =
@@ -21,8 +15,6 @@ report-spec =
     (tie.spec
     (λ c κs. search needs)
     (λ c. search needs)
+    (λ c. loaded-size _ (c .before .before .load .ensures))
     (λ c κs. search needs)
-    (λ c. search needs)
-    put-list-requires
-    returns
-    returns-2)
+    returns)

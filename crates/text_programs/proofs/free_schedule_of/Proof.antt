@@ -1,6 +1,4 @@
-use mathlib.Core.Path.{sym}
-use lib.Seq.{length-take-le}
-use Rattle.pieces.proofs.PutLaws.{put-lent}
+use Rattle.pieces.proofs.PutLaws.{put-lent, lent-size}
 use borrow.Author.Needs.{needs}
 use Rattle.text_programs.proofs.free_schedule_of.Statement.{statement}
 use Rattle.text_programs.proofs.free_schedule_of.Tie as tie
@@ -15,6 +13,6 @@ free-schedule-of-spec =
     (λ c. search needs)
     (λ c κs. search needs)
     (λ c. put-lent (c .free-text .ensures))
-    (λ c. sym (length-take-le _ _ (put-lent (c .before .free-text .ensures))))
+    (λ c. lent-size (c .before .free-text .ensures))
     (λ c κs. search needs)
     (λ c. search needs))

@@ -1,15 +1,15 @@
 use Rattle.pieces.proofs.PutLaws.{put-then}
-use Rattle.report.specs.Report.{refusalLine}
+use Rattle.pieces.specs.Pieces.{refusedAt}
 use borrow.Author.Needs.{needs}
-use Rattle.report.proofs.put_refusal.Statement.{statement}
-use Rattle.report.proofs.put_refusal.Tie as tie
+use Rattle.pieces.proofs.put_refused.Statement.{statement}
+use Rattle.pieces.proofs.put_refused.Tie as tie
 
 returns : tie.Need-returns
-unfolding refusalLine
+unfolding refusedAt
 returns c = put-then (c .before .before .before .before .before .before .before .put-named .ensures) (c .before .before .put-named2 .ensures)
 
-pub put-refusal-spec : {M : Type 1} → statement M
-put-refusal-spec =
+pub put-refused-spec : {M : Type 1} → statement M
+put-refused-spec =
     tie.close
     (tie.spec
     (λ c. search needs)
