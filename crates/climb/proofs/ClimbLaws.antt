@@ -10,7 +10,8 @@ use Rattle.list_format.specs.Lists.{registers, pairCount, pairAt, pairsFrom, pa
 use Rattle.list_format.proofs.ListLaws.{pairs-in-range}
 use Rattle.free_laws.specs.Free.{common}
 use Rattle.free_laws.proofs.FreeLaws.{common-pos}
-use Rattle.free_laws.proofs.Bound.{Bound, bound-max, bound-period, bound-schedule}
+use Rattle.free_laws.specs.Rule.{Bound}
+use Rattle.free_laws.proofs.Bound.{bound-max, bound-period, bound-schedule}
 use Rattle.checker.specs.Check.{Ready}
 use Rattle.rounds.proofs.RoundLaws.{rules-at}
 use Rattle.trials.specs.Trial.{Trial, Sought}

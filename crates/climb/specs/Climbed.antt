@@ -5,7 +5,7 @@ use mathlib.Core.Path.{_≡_}
 use Rattle.timing.specs.declared.Pair.{Pair}
 use Rattle.list_format.specs.Lists.{registers, pairs}
 use Rattle.free_laws.specs.Free.{freePeriod, freeSchedule}
-use Rattle.free_laws.proofs.Bound.{Bound}
+use Rattle.free_laws.specs.Rule.{Bound}
 use Rattle.climb.specs.declared.Ascent.{Ascent}
 use Rattle.climb.specs.declared.Ascent.the-variants.{Settled, Undecided}
 

@@ -5,7 +5,7 @@ ghost use mathlib.Core.Path.{_≡_};
 ghost use Prim.Native.Nat.{_-_, _≤_, max};
 ghost use Rattle.list_format.specs.Lists.{pairCount, pairs, IsAccepted};
 ghost use Rattle.free_laws.specs.Free.{common as commonOf};
-ghost use Rattle.free_laws.proofs.Bound.{Bound};
+ghost use Rattle.free_laws.specs.Rule.{Bound};
 ghost use Rattle.checker.specs.Check.{Ready};
 ghost use Rattle.trials.specs.Trial.{Trial};
 ghost use Rattle.climb.specs.Climbed.{Alone, Climbed, Ascended};

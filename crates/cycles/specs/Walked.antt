@@ -4,7 +4,7 @@ use mathlib.Core.List.{List}
 use mathlib.Core.Path.{_≡_}
 use Rattle.timing.specs.Limits.{maxRegisters, maxDelay}
 use Rattle.list_format.specs.Lists.{registers, pairCount, pairs, IsAccepted}
-use Rattle.free_laws.proofs.Cycle.{Adds}
+use Rattle.free_laws.specs.Rule.{Adds}
 use Rattle.cycles.specs.declared.Walk.{Walk}
 
 -- an accepted list with its count of pairs, and a limit to the steps of a walk

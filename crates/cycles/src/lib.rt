@@ -4,7 +4,7 @@ ghost use mathlib.Core.Path.{_≡_};
 ghost use Prim.Native.Nat.{ℕ, _+_, _*_, _≤_, _<_};
 ghost use Rattle.timing.specs.Limits.{maxDelay};
 ghost use Rattle.list_format.specs.Lists.{registers, pairs};
-ghost use Rattle.free_laws.proofs.Bound.{Bound};
+ghost use Rattle.free_laws.specs.Rule.{Bound};
 ghost use Rattle.cycles.specs.Walked.{Walkable, Walked, Further};
 use rounds::PARENTS;
 use timing::Pair;

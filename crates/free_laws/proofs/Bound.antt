@@ -9,13 +9,9 @@ use Rattle.timing.specs.declared.Pair.{Pair}
 use Rattle.timing.specs.Rules.{time, Each, InRange}
 use Rattle.buffers.specs.Over.{zeros}
 use Rattle.free_laws.specs.Free.{freeAt, common, freePeriod, freeSchedule}
-use Rattle.free_laws.proofs.RuleList.{Meets, rules}
-use Rattle.free_laws.proofs.Least.{Least, least-unique}
+use Rattle.free_laws.specs.Rule.{Meets, rules, Least, Bound}
+use Rattle.free_laws.proofs.Least.{least-unique}
 use Rattle.free_laws.proofs.FreeLaws.{free-is-least, works→meets, meets→works, common-pos, common-meets, period-works, period-least, period-pos}
-
--- no times meet the rules at any period from 1 up that is shorter than b
-pub record Bound (ps : List Pair) (b : ℕ) : Type 0 where
-  pub under : (u : ℕ) (f : ℕ → ℕ) → 1 ≤ u → Each (Meets f) (rules u ps) → b ≤ u
 
 pub bound-low : {ps : List Pair} {b : ℕ} → b ≤ 1 → Bound ps b
 bound-low h = record { under = λ u f p m. omega arith }

@@ -8,19 +8,9 @@ use lib.ListN.{length, set}
 use lib.Seq.{set-getD}
 use Rattle.timing.specs.declared.Pair.{Pair}
 use Rattle.timing.specs.Rules.{time, Each, InRange}
-use Rattle.free_laws.proofs.RuleList.{Rule, Meets, setup, hold}
-use Rattle.free_laws.proofs.Sweep.{Below, set-below, ask, Reach, reach-more, Obeyed, obeyed, Round}
-use Rattle.free_laws.proofs.Rounds.{Capped}
-
--- register r raised to at least v, and to no more than c
-abbrev pub raiseTo : ℕ → ℕ → ℕ → List ℕ → List ℕ
-raiseTo c r v x = set x r (min c (max (time x r) v))
-
--- the capture register raised as far as setup asks, then the launch register as far as hold asks
-unfoldable pub relaxTo : ℕ → ℕ → Pair → List ℕ → List ℕ
-relaxTo c t p x =
-    let y : List ℕ = raiseTo c (p .capture) (time x (p .launch) + p .greatest - t) x in
-    raiseTo c (p .launch) (time y (p .capture) - p .least) y
+use Rattle.free_laws.specs.Rule.{Rule, Meets, setup, hold, Below}
+use Rattle.free_laws.specs.Raise.{ask, Reach, Round, Capped, raiseTo, relaxTo}
+use Rattle.free_laws.proofs.Sweep.{set-below, reach-more, Obeyed, obeyed}
 
 pub raise-capped : (c r v : ℕ) (x : List ℕ) → Capped c x → Capped c (raiseTo c r v x)
 raise-capped c r v x h j = set-below x r (min c (max (time x r) v)) j (λ q. c) (h j) (omega arith)
@@ -76,18 +66,3 @@ relaxed c t p x k h =
         reach-more c x y z z (hold p) (a .up) (λ j. le-refl _) (b .reach),
       );
     })
-
--- ---- raises one after the other
-
--- y is x raised, past the cap nowhere, and past no times that meet the rules
-pub record Risen (c : ℕ) (rs : List Rule) (x y : List ℕ) : Type 0 where
-  pub size : length y ≡ length x
-  pub capped : Capped c y
-  pub low : (f : ℕ → ℕ) → Each (Meets f) rs → Below x f → Below y f
-
--- ---- a round
-
--- y is x after a round over the rules that goes past the cap nowhere
-pub record RoundTo (c : ℕ) (rs : List Rule) (x y : List ℕ) : Type 0 where
-  pub round : Round c rs x y
-  pub capped : Capped c y

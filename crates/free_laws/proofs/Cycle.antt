@@ -6,12 +6,7 @@ use native.Mathlib.Nat.{div-lt-iff-lt-mul}
 use native.Mathlib.Omega.{arith}
 use Rattle.timing.specs.declared.Pair.{Pair}
 use Rattle.timing.specs.Rules.{Each}
-use Rattle.free_laws.proofs.RuleList.{Meets, setup, hold, rules}
-use Rattle.free_laws.proofs.Bound.{Bound}
-
--- rules that lead from register `at` to register `start`: what they ask for, what they leave, and how many of them are setup
-pub record Adds (ps : List Pair) (start at gain slack setups : ℕ) : Type 0 where
-  pub sums : (u : ℕ) (f : ℕ → ℕ) → Each (Meets f) (rules u ps) → f at + gain ≤ f start + slack + setups * u
+use Rattle.free_laws.specs.Rule.{Meets, setup, hold, rules, Bound, Adds}
 
 pub adds-none : {ps : List Pair} {start : ℕ} → Adds ps start start 0 0 0
 adds-none = record { sums = λ u f m. omega arith }

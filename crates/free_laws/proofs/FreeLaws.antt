@@ -11,10 +11,12 @@ use Rattle.timing.specs.Rules.{time, Each, InRange}
 use Rattle.search.proofs.SearchLaws.{least-is-least, least-below, least-passes}
 use Rattle.buffers.specs.Over.{zeros}
 use Rattle.free_laws.specs.Free.{relax, round, rounds, freeAt, freeWorks, common, freePeriod}
-use Rattle.free_laws.proofs.RuleList.{Meets, setup, hold, rules, each-rule, within, admissible→meets, meets→admissible}
+use Rattle.free_laws.specs.Rule.{Meets, setup, hold, rules, Least}
+use Rattle.free_laws.specs.Raise.{Capped}
+use Rattle.free_laws.proofs.RuleList.{each-rule, within, admissible→meets, meets→admissible}
 use Rattle.free_laws.proofs.Sweep.{zeros-below, obey, sweep, sweeps}
-use Rattle.free_laws.proofs.Least.{Least, after, after-size, least-exists, bounded}
-use Rattle.free_laws.proofs.Rounds.{Capped, settled}
+use Rattle.free_laws.proofs.Least.{after, after-size, least-exists, bounded}
+use Rattle.free_laws.proofs.Rounds.{settled}
 
 -- ---- a round over the pairs is a round over their rules
 

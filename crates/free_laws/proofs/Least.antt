@@ -14,15 +14,10 @@ use borrow.Author.Tests.{leb-true, leb-false, le-leb, ltb-true, ltb-false}
 use Rattle.timing.specs.Rules.{time, Each}
 use Rattle.buffers.specs.Over.{zeros}
 use Rattle.free_laws.proofs.Lists.{Some, each-zip, pick-some, sift}
-use Rattle.free_laws.proofs.RuleList.{Rule, Meets, Within}
-use Rattle.free_laws.proofs.Sweep.{Below, zeros-below, Round, sweeps, sweep-round, still-meets}
+use Rattle.free_laws.specs.Rule.{Rule, Meets, Within, Below, Least}
+use Rattle.free_laws.specs.Raise.{Round}
+use Rattle.free_laws.proofs.Sweep.{zeros-below, sweeps, sweep-round, still-meets}
 use Rattle.free_laws.proofs.Count.{bit, find, fills}
-
--- it meets the rules, and no register is later than in any times that meet them
-pub record Least (rs : List Rule) (n : ℕ) (l : List ℕ) : Type 0 where
-  pub size : length l ≡ n
-  pub meets : Each (Meets (time l)) rs
-  pub below : (f : ℕ → ℕ) → Each (Meets f) rs → Below l f
 
 pub least-unique : {rs : List Rule} {n : ℕ} {x l : List ℕ} → Least rs n x → Least rs n l → x ≡ l
 least-unique {rs} {n} {x} {l} a b =

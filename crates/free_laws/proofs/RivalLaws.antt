@@ -9,7 +9,8 @@ use Rattle.timing.specs.declared.Pair.{Pair}
 use Rattle.timing.specs.Rules.{time, Each, InRange}
 use Rattle.free_laws.specs.Free.{freeAt, freePeriod}
 use Rattle.free_laws.specs.Rival.{Frac, fracAt, AtMost, RivalAdmissible, Proper}
-use Rattle.free_laws.proofs.RuleList.{Meets, rules, each-rule}
+use Rattle.free_laws.specs.Rule.{Meets, rules}
+use Rattle.free_laws.proofs.RuleList.{each-rule}
 use Rattle.free_laws.proofs.FreeLaws.{free-is-least, meets→works, period-least}
 
 -- ---- rounding down keeps a rule

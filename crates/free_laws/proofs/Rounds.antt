@@ -12,14 +12,11 @@ use borrow.Author.Tests.{leb-true, leb-false, le-leb}
 use Rattle.timing.specs.Rules.{time, Each}
 use Rattle.buffers.specs.Over.{zeros}
 use Rattle.free_laws.proofs.Lists.{pick-some}
-use Rattle.free_laws.proofs.RuleList.{Rule, Meets, Within}
-use Rattle.free_laws.proofs.Sweep.{Below, zeros-below, Reach, Round, sweeps}
+use Rattle.free_laws.specs.Rule.{Rule, Meets, Within, Below, Least}
+use Rattle.free_laws.specs.Raise.{Reach, Round, Capped}
+use Rattle.free_laws.proofs.Sweep.{zeros-below, sweeps}
 use Rattle.free_laws.proofs.Count.{count, count-full, grow, grow-first}
-use Rattle.free_laws.proofs.Least.{Least, after, after-round, Crosses, cross, some-zero}
-
--- no time is past c
-abbrev pub Capped : ℕ → List ℕ → Type 0
-Capped c x = Below x (λ r. c)
+use Rattle.free_laws.proofs.Least.{after, after-round, Crosses, cross, some-zero}
 
 -- some cap is never reached
 latest : (l : List ℕ) → (c : ℕ) × Capped c l

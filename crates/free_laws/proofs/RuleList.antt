@@ -7,32 +7,7 @@ use native.Mathlib.Omega.{arith}
 use Rattle.timing.specs.declared.Pair.{Pair}
 use Rattle.timing.specs.Rules.{time, admissible, Each, InRange}
 use Rattle.timing.proofs.RuleLaws.{admissible-sound, admissible-complete}
-
--- time src + gain ≤ time dst + slack
-pub record Rule : Type 0 where
-  pub src : ℕ
-  pub dst : ℕ
-  pub gain : ℕ
-  pub slack : ℕ
-
--- times of the registers that meet a rule
-abbrev pub Meets : (ℕ → ℕ) → Rule → Type 0
-Meets f r = f (r .src) + r .gain ≤ f (r .dst) + r .slack
-
-abbrev pub setup : ℕ → Pair → Rule
-setup t p = record { src = p .launch; dst = p .capture; gain = p .greatest; slack = t }
-
-abbrev pub hold : Pair → Rule
-hold p = record { src = p .capture; dst = p .launch; gain = 0; slack = p .least }
-
--- both rules of each pair
-abbrev pub rules : ℕ → List Pair → List Rule
-rules t [] = []
-rules t (p ∷ ps) = setup t p ∷ hold p ∷ rules t ps
-
--- both ends among the first n registers
-abbrev pub Within : ℕ → Rule → Type 0
-Within n r = (r .src < n) × (r .dst < n)
+use Rattle.free_laws.specs.Rule.{Rule, Meets, setup, hold, rules, Within}
 
 -- a property of each rule, from what holds of each pair
 pub each-rule : {P : Pair → Type 0} (Q : Rule → Type 0) (t : ℕ) → ((p : Pair) → P p → Q (setup t p) × Q (hold p)) → (ps : List Pair) → Each P ps → Each Q (rules t ps)

@@ -10,11 +10,8 @@ use Rattle.timing.specs.Rules.{time, Each}
 use Rattle.buffers.specs.Over.{zeros}
 use Rattle.free_laws.specs.Free.{raise}
 use Rattle.free_laws.proofs.Lists.{each-map, each-all}
-use Rattle.free_laws.proofs.RuleList.{Rule, Meets, Within}
-
--- no register of x is later than in f
-abbrev pub Below : List ℕ → (ℕ → ℕ) → Type 0
-Below x f = (r : ℕ) → time x r ≤ f r
+use Rattle.free_laws.specs.Rule.{Rule, Meets, Within, Below}
+use Rattle.free_laws.specs.Raise.{ask, Reach, Round}
 
 pub zeros-below : (n : ℕ) (f : ℕ → ℕ) → Below (zeros n) f
 zeros-below zero f r = zero-le
@@ -37,14 +34,6 @@ set-below (a ∷ x) (suc i) v (suc j) f h k = set-below x i v j (λ r. f (suc r)
 
 -- ---- one rule
 
--- what the rule asks of its destination
-abbrev pub ask : Rule → List ℕ → ℕ
-ask r x = time x (r .src) + r .gain - r .slack
-
--- y has the destination as late as the rule asks of x, or at the cap c
-abbrev pub Reach : ℕ → List ℕ → List ℕ → Rule → Type 0
-Reach c x y r = min c (ask r x) ≤ time y (r .dst)
-
 pub reach-more : (c : ℕ) (x x′ y y′ : List ℕ) (r : Rule) → Below x (time x′) → Below y (time y′) → Reach c x′ y r → Reach c x y′ r
 reach-more c x x′ y y′ r a b h = omega (arith, a (r .src), b (r .dst))
 
@@ -66,13 +55,6 @@ obeyed c r x v h up far near =
     }
 
 -- ---- a round
-
--- y is x after a round over the rules, in any order
-pub record Round (c : ℕ) (rs : List Rule) (x y : List ℕ) : Type 0 where
-  pub size : length y ≡ length x
-  pub up : Below x (time y)
-  pub low : (f : ℕ → ℕ) → Each (Meets f) rs → Below x f → Below y f
-  pub reach : Each (Reach c x y) rs
 
 -- the destination raised as far as the rule asks
 abbrev pub obey : Rule → List ℕ → List ℕ

@@ -14,7 +14,7 @@ use Rattle.timing.proofs.RuleLaws.{test→met, met→test}
 use Rattle.search.specs.Search.{IsLeast}
 use Rattle.free_laws.proofs.Lists.{each-zip}
 use Rattle.free_laws.proofs.RuleList.{meets-longer, admissible→meets}
-use Rattle.free_laws.proofs.Bound.{Bound}
+use Rattle.free_laws.specs.Rule.{Bound}
 use Rattle.split_laws.specs.Split.{nothing, found, timing, timings, meets, works, splits, firstOf, firstSplit}
 use Rattle.split_laws.specs.Marks.{keeps}
 use Rattle.split_laws.proofs.FirstLaws.{Below, least-first}

@@ -21,7 +21,8 @@ use Rattle.list_format.specs.declared.Verdict.the-variants.{Refused as ListRefu
 use Rattle.list_format.proofs.ListLaws.{refused→fault, accepted→none, none→accepted, pairs-in-range}
 use Rattle.free_laws.specs.Free.{common, freePeriod, freeSchedule}
 use Rattle.free_laws.proofs.FreeLaws.{period-pos}
-use Rattle.free_laws.proofs.Bound.{Bound, bound-free}
+use Rattle.free_laws.specs.Rule.{Bound}
+use Rattle.free_laws.proofs.Bound.{bound-free}
 use Rattle.free_schedule.specs.FreeCall.{FreeIn}
 use Rattle.split_laws.specs.Split.{timings}
 use Rattle.plan_laws.specs.Plan.{twoPeriod, twoOffset, twoTimings}

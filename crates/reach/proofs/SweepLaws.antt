@@ -16,7 +16,8 @@ use Rattle.timing.specs.Limits.{maxDelay}
 use Rattle.list_format.specs.Lists.{registers, pairCount, pairAt, pairsFrom, pairs, placeOf, IsPair}
 use Rattle.list_format.proofs.ListLaws.{each-pair, pairs-within, pair-holds, each-place}
 use Rattle.free_laws.specs.Free.{common}
-use Rattle.free_laws.proofs.Bound.{Bound, bound-common}
+use Rattle.free_laws.specs.Rule.{Bound}
+use Rattle.free_laws.proofs.Bound.{bound-common}
 use Rattle.free_laws.proofs.FreeLaws.{common-limit}
 use Rattle.split_laws.specs.Split.{timing, timings}
 use Rattle.split_laws.proofs.ClosureLaws.{time-of}

@@ -10,7 +10,7 @@ ghost use lib.ListN.{length, take};
 ghost use Rattle.buffers.specs.Over.{over};
 ghost use Rattle.list_format.specs.Lists.{pairs};
 ghost use Rattle.free_laws.specs.Free.{common};
-ghost use Rattle.free_laws.proofs.Bound.{Bound};
+ghost use Rattle.free_laws.specs.Rule.{Bound};
 ghost use Rattle.split_laws.specs.Split.{timing as timingOf, timings};
 ghost use Rattle.plan_laws.specs.Reach.{reachOf, ahead, behind, reachPeriod, lateAbove, Raised, Step};
 ghost use Rattle.checker.specs.Check.{Ready};

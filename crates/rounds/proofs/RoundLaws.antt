@@ -13,11 +13,12 @@ use Rattle.timing.specs.Limits.{maxTiming}
 use Rattle.list_format.specs.Lists.{pairCount, pairAt, pairs, PairIn, IsPair, placeOf}
 use Rattle.list_format.proofs.ListLaws.{accepted-in, each-pair, pair-holds, each-place}
 use Rattle.free_laws.proofs.RuleList as rule-list
-use Rattle.free_laws.proofs.RuleList.{Rule, Meets, setup, hold, rules, each-rule}
-use Rattle.free_laws.proofs.Sweep.{Below, Reach, reach-more}
-use Rattle.free_laws.proofs.Rounds.{Capped}
+use Rattle.free_laws.specs.Rule.{Rule, Meets, setup, hold, rules, Below}
+use Rattle.free_laws.specs.Raise.{Reach, Capped, raiseTo, relaxTo, Risen, RoundTo}
+use Rattle.free_laws.proofs.RuleList.{each-rule}
+use Rattle.free_laws.proofs.Sweep.{reach-more}
 use Rattle.free_laws.proofs.Cycle.{Among}
-use Rattle.free_laws.proofs.Cap.{raiseTo, raise-capped, relaxTo, Relaxed, relaxed, Risen, RoundTo}
+use Rattle.free_laws.proofs.Cap.{raise-capped, Relaxed, relaxed}
 use Rattle.rounds.specs.Raise.{Raisable, Relaxable, Raising}
 
 -- a register raised leaves a schedule that can be raised

@@ -6,7 +6,7 @@ use lib.ListN.{length}
 use Rattle.timing.specs.declared.Pair.{Pair}
 use Rattle.timing.specs.Rules.{InRange}
 use Rattle.timing.specs.Limits.{maxRegisters, maxPairs, maxDelay, maxPeriod, maxTiming}
-use Rattle.free_laws.proofs.Rounds.{Capped}
+use Rattle.free_laws.specs.Raise.{Capped}
 use Rattle.checker.specs.Check.{Ready}
 
 -- x has a timing for each of at most so many registers, none past the limit

@@ -13,14 +13,15 @@ use Rattle.timing.specs.Limits.{maxDelay, maxPeriod, maxTiming}
 use Rattle.list_format.specs.Lists.{registers, pairs, IsAccepted}
 use Rattle.list_format.proofs.ListLaws.{accepted-in, pairs-in-range, pairs-within}
 use Rattle.buffers.specs.Over.{zeros}
-use Rattle.free_laws.proofs.RuleList.{Meets, rules, within, admissible→meets, meets→admissible}
+use Rattle.free_laws.specs.Rule.{Meets, rules, Below, Bound}
+use Rattle.free_laws.specs.Raise.{Capped, Risen, RoundTo}
+use Rattle.free_laws.proofs.RuleList.{within, admissible→meets, meets→admissible}
 use Rattle.free_laws.proofs.Lists.{each-map}
-use Rattle.free_laws.proofs.Sweep.{Below, zeros-below}
+use Rattle.free_laws.proofs.Sweep.{zeros-below}
 use Rattle.free_laws.proofs.Least.{least-exists}
-use Rattle.free_laws.proofs.Rounds.{Capped, Rounds, rounds-start, rounds-turn, rounds-end}
+use Rattle.free_laws.proofs.Rounds.{Rounds, rounds-start, rounds-turn, rounds-end}
 use Rattle.free_laws.proofs.FreeLaws.{least-capped, common-limit}
-use Rattle.free_laws.proofs.Cap.{Risen, RoundTo}
-use Rattle.free_laws.proofs.Bound.{Bound, bound-common, bound-next}
+use Rattle.free_laws.proofs.Bound.{bound-common, bound-next}
 use Rattle.checker.specs.Check.{Ready}
 use Rattle.rounds.specs.Raise.{Raising}
 use Rattle.cycles.specs.Walked.{Walkable}

@@ -5,9 +5,7 @@ use mathlib.Core.List.{List}
 use mathlib.Core.Path.{_≡_}
 use Rattle.timing.specs.Rules.{admissible}
 use Rattle.list_format.specs.Lists.{registers, pairs}
-use Rattle.free_laws.proofs.RuleList.{rules}
-use Rattle.free_laws.proofs.Least.{Least}
-use Rattle.free_laws.proofs.Bound.{Bound}
+use Rattle.free_laws.specs.Rule.{rules, Least, Bound}
 use Rattle.checker.specs.Check.{Ready}
 
 -- an accepted list with places for a schedule, and no schedule at a period shorter than t

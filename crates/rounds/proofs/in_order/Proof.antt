@@ -3,8 +3,8 @@ use Prim.Native.Nat.{_-_}
 use native.Mathlib.Omega.{arith}
 use Rattle.timing.specs.Limits.{maxTiming}
 use Rattle.list_format.specs.Lists.{pairs}
-use Rattle.free_laws.proofs.RuleList.{rules}
-use Rattle.free_laws.proofs.Cap.{Risen}
+use Rattle.free_laws.specs.Rule.{rules}
+use Rattle.free_laws.specs.Raise.{Risen}
 use Rattle.rounds.proofs.RoundLaws.{risen-start, risen-then, raising-kept}
 use borrow.Author.Needs.{needs}
 use Rattle.rounds.proofs.in_order.Statement.{statement}
