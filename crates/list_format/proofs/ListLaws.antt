@@ -16,7 +16,7 @@ use Rattle.refusals.specs.declared.Fault.{Fault}
 use Rattle.refusals.specs.declared.Fault.the-variants.{None, At}
 use Rattle.refusals.proofs.CheckLaws.{stop-first, pass-first, both-pass, pass-both, passed, passes, each-passes, all-pass}
 use Rattle.refusals.proofs.ReplyLaws.{numbers-none}
-use Rattle.list_format.specs.Lists.{word, registers, pairCount, pairPlace, pairAt, pairsFrom, pairs, placeOf, differ, headChecks, kindChecks, valueChecks, pairChecks, endChecks, bodyChecks, listChecks, judged, verdict, IsAccepted, PairIn, IsPair}
+use Rattle.list_format.specs.Lists.{word, registers, pairCount, pairPlace, pairAt, pairsFrom, pairs, placeOf, differ, headChecks, kindChecks, valueChecks, pairChecks, endChecks, bodyChecks, listChecks, judged, verdict, ValuesIn, IsAccepted, PairIn, IsPair}
 use Rattle.list_format.specs.declared.Verdict.{Verdict}
 use Rattle.list_format.specs.declared.Verdict.the-variants.{Accepted, Refused}
 
@@ -71,13 +71,6 @@ module _ (ws : List ℕ) where
   accepted→none a = judged-accepted (firstFault (listChecks ws)) refl a
 
 -- ---- the facts behind the checks
-
--- the values of a pair of a list with n registers
-pub record ValuesIn (n : ℕ) (p : Pair) : Type 0 where
-  pub launch : p .launch < n
-  pub capture : p .capture < n
-  pub order : p .least ≤ p .greatest
-  pub limit : p .greatest ≤ maxDelay
 
 -- the kinds of the three words of a pair
 pub record KindsIn (p least greatest : ℕ) : Type 0 where

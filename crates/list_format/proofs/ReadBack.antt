@@ -17,10 +17,10 @@ use Rattle.refusals.specs.Checks.{firstFault, eachCheck}
 use Rattle.refusals.specs.Reply.{Outcome, done, unless}
 use Rattle.refusals.specs.declared.Fault.the-variants.{None}
 use Rattle.refusals.proofs.CheckLaws.{pass-both, passes, all-pass}
-use Rattle.list_format.specs.Lists.{word, registers, pairCount, pairPlace, pairAt, valueChecks}
+use Rattle.list_format.specs.Lists.{word, registers, pairCount, pairPlace, pairAt, valueChecks, ValuesIn}
 use Rattle.list_format.specs.Read.{fourOf, numbersOf}
 use Rattle.list_format.specs.Write.{givenCount, givenPair, threeOf, openList, closed, wordsOf, countChecks, givenChecks, writeChecks, writing}
-use Rattle.list_format.proofs.ListLaws.{ListIn, KindsIn, ValuesIn, no-difference, values-pass}
+use Rattle.list_format.proofs.ListLaws.{ListIn, KindsIn, no-difference, values-pass}
 
 -- a word of a kind, from its payload
 of-kind : (kind w : ℕ) → kindOf w ≡ kind → wordOf kind (payloadOf w) ≡ w

@@ -17,18 +17,10 @@ use Rattle.refusals.specs.Checks.{firstFault, eachCheck}
 use Rattle.refusals.specs.Reply.{Outcome, done, unless}
 use Rattle.refusals.specs.declared.Fault.the-variants.{None}
 use Rattle.refusals.proofs.CheckLaws.{both-pass, pass-both, passed, passes, each-passes}
-use Rattle.list_format.specs.Lists.{word, registers, pairCount, pairPlace, pairOf, pairAt, listChecks}
+use Rattle.list_format.specs.Lists.{word, registers, pairCount, pairPlace, pairOf, pairAt, listChecks, ValuesIn}
 use Rattle.list_format.specs.Read.{fourOf, numbersOf, readChecks, reading}
-use Rattle.list_format.specs.Write.{givenCount, givenPair, FitsWords, threeOf, openList, closed, wordsOf, countChecks, givenChecks, writeChecks}
-use Rattle.list_format.proofs.ListLaws.{HeadIn, KindsIn, ValuesIn, EndIn, ListIn, same, values-in, list-pass}
-
--- what the writer's checks leave: as many numbers as four a pair, counts and values in range
-pub record GivenIn (n : ℕ) (xs : List ℕ) : Type 0 where
-  pub size : length xs ≡ 4 * givenCount xs
-  pub some : 0 < n
-  pub most : n ≤ maxRegisters
-  pub few : givenCount xs ≤ maxPairs
-  pub values : (k : ℕ) → k < givenCount xs → ValuesIn n (givenPair xs k)
+use Rattle.list_format.specs.Write.{givenCount, givenPair, FitsWords, threeOf, openList, closed, wordsOf, countChecks, givenChecks, writeChecks, GivenIn}
+use Rattle.list_format.proofs.ListLaws.{HeadIn, KindsIn, EndIn, ListIn, same, values-in, list-pass}
 
 pub given-in : (n : ℕ) (xs : List ℕ) (room : ℕ) → firstFault (writeChecks n xs room) ≡ None → GivenIn n xs
 given-in n xs room e =

@@ -16,11 +16,11 @@ use Rattle.refusals.proofs.CheckLaws.{both-pass, passed}
 use Rattle.refusals.proofs.ReplyLaws.{answered-refused, answered-done}
 use Rattle.list_format.specs.Lists.{pairPlace}
 use Rattle.list_format.specs.Read.{reading}
-use Rattle.list_format.specs.Write.{givenCount, openList, wordsOf, countChecks, givenChecks, givenBody, writeChecks, writing, writeReply}
+use Rattle.list_format.specs.Write.{givenCount, openList, wordsOf, countChecks, givenChecks, givenBody, writeChecks, writing, writeReply, GivenIn}
 use Rattle.list_format.specs.RoundTrip.{WrittenAs}
 use Rattle.list_format.specs.declared.Writing.{Writing}
 use Rattle.list_format.specs.declared.Writing.the-variants.{Written, Refused}
-use Rattle.list_format.proofs.WriteBack.{GivenIn, given-in, open-length, words-length, write-back}
+use Rattle.list_format.proofs.WriteBack.{given-in, open-length, words-length, write-back}
 
 module _ (n : ℕ) (xs was : List ℕ) where
   -- the end word closes the list

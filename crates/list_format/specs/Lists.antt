@@ -121,6 +121,13 @@ judged ws (At number place) = Refused number place
 unfoldable pub verdict : List ℕ → Verdict
 verdict ws = judged ws (firstFault (listChecks ws))
 
+-- the values of a pair of a list with n registers
+pub record ValuesIn (n : ℕ) (p : Pair) : Type 0 where
+  pub launch : p .launch < n
+  pub capture : p .capture < n
+  pub order : p .least ≤ p .greatest
+  pub limit : p .greatest ≤ maxDelay
+
 -- an accepted list
 abbrev pub IsAccepted : List ℕ → Type 0
 IsAccepted ws = verdict ws ≡ Accepted (registers ws) (pairCount ws)

@@ -1,6 +1,7 @@
 -- Writing a delay list from plain numbers: n, and launch, capture, least and greatest of each pair.
-use Prim.Native.Nat.{ℕ, _+_, _*_, _/_, _%_, _^_, _<_}
+use Prim.Native.Nat.{ℕ, _+_, _*_, _/_, _%_, _^_, _<_, _≤_}
 use mathlib.Core.List.{List, [], _∷_, _++_}
+use mathlib.Core.Path.{_≡_}
 use lib.Dec.{ltb, eqb}
 use lib.ListN.{length, getD}
 use Rattle.timing.specs.declared.Pair.{Pair}
@@ -10,7 +11,7 @@ use Rattle.words.specs.Word.{headWord, pairWord, leastWord, greatestWord, endWo
 use Rattle.buffers.specs.Run.{run}
 use Rattle.refusals.specs.Checks.{Check, eachCheck}
 use Rattle.refusals.specs.Reply.{Reply, refusal, numbers, Outcome, done, answered}
-use Rattle.list_format.specs.Lists.{pairPlace, differ, valueChecks}
+use Rattle.list_format.specs.Lists.{pairPlace, differ, valueChecks, ValuesIn}
 use Rattle.list_format.specs.declared.Writing.{Writing}
 use Rattle.list_format.specs.declared.Writing.the-variants.{Written, Refused}
 
@@ -67,6 +68,14 @@ givenBody n xs m room = eachCheck (givenChecks n xs) 0 m ++ ((ltb room (pairPlac
 
 abbrev pub writeChecks : ℕ → List ℕ → ℕ → List Check
 writeChecks n xs room = countChecks n (length xs) ++ givenBody n xs (givenCount xs) room
+
+-- what the checks leave: as many numbers as four a pair, counts and values in range
+pub record GivenIn (n : ℕ) (xs : List ℕ) : Type 0 where
+  pub size : length xs ≡ 4 * givenCount xs
+  pub some : 0 < n
+  pub most : n ≤ maxRegisters
+  pub few : givenCount xs ≤ maxPairs
+  pub values : (k : ℕ) → k < givenCount xs → ValuesIn n (givenPair xs k)
 
 -- writing into `room` places: the count of words is returned, and that many places are filled
 unfoldable pub writing : ℕ → List ℕ → ℕ → Outcome
