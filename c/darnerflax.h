@@ -11,7 +11,7 @@
  *
  * Refusals of the list: 11 count of words, 12 head, 13 kind of a word or spare bits, 14 register, 15 delay,
  * 16 least delay above greatest, 17 end word. Of the call: 3 period, offset or timings, 2 `answer` too short,
- * 1 `scratch` too short. The list is checked first, word by word, then 3, 2, 1; the first that fits is returned.
+ * 1 `scratch` too short. The list is checked first, pair by pair, then 3, 2, 1; the first that fits is returned.
  *
  * n is the count of registers (1 to 512), m the count of pairs (0 to 2,048). Times are in picoseconds.
  */

@@ -1,4 +1,4 @@
-// How far down each register of an accepted list is forced late, and with it the two-timing period and its split.
+// Up to which period each register of an accepted list is forced late, and with it the two-timing period and its split.
 // No period is tried: the reaches are raised pair by pair until none rises any more.
 // The contracts cite `specs/Settling.antt`, and the definitions of `plan_laws` (reaches and the plan).
 ghost use mathlib.Core.Path.{_≡_};
