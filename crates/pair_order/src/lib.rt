@@ -1,215 +1,200 @@
-// An order of the pairs for rounds of raises: registers in the order of a walk along the pairs, the last one finished first, and
-// with each register the pairs that it launches. Where no pairs lead round in a circle, times then move on in one round.
+// An order of the pairs for rounds of raises: that of a walk from register to register along the pairs, either way. Times then
+// move along a chain or round a ring in one round, in whatever order the list has its pairs.
 // It is a hint only, and nothing is promised of it.
 ghost use mathlib.Core.Path.{_≡_};
-ghost use Prim.Native.Nat.{_≤_, _<_};
+ghost use Prim.Native.Nat.{_≤_};
 ghost use Rattle.timing.specs.Limits.{maxRegisters};
 ghost use Rattle.list_format.specs.Lists.{pairCount, IsAccepted};
 use timing::MAX_PAIRS;
+use timing::Pair;
 
 const REGISTERS: usize = timing::MAX_REGISTERS as usize;
 
-// The last pair that each register launches, in two tables, and for each pair the one before. They count from 1; 0 is none.
-fn link(
-    words: &[u32],
-    count: usize,
-    lasts: &mut [usize; REGISTERS],
-    ahead: &mut [usize; REGISTERS],
-    before: &mut [usize; MAX_PAIRS],
-)
+// A pair has two ends: 2k + 1 is the launch of pair k, 2k + 2 its capture.
+const ENDS: usize = 2 * MAX_PAIRS;
+
+// An end is put at a register, after the ends that are there: the last end of each stands in `lasts`, the one before an end in
+// `before`; 0 is none.
+fn join(r: usize, end: usize, lasts: &mut [usize; REGISTERS], before: &mut [usize; ENDS]) {
+    let at = r % REGISTERS;
+    let e = end % ENDS;
+    before[e] = lasts[at];
+    lasts[at] = e + 1;
+}
+
+// Both ends of every pair.
+fn link(words: &[u32], count: usize, lasts: &mut [usize; REGISTERS], before: &mut [usize; ENDS])
     requires { ⌜ IsAccepted (now words) ⌝ }
     requires { ⌜ count ≡ pairCount (now words) ⌝ }
 {
     let mut k = 0;
     while k < count {
         let p = delay_list::pair_at(words, k);
-        let a = p.launch as usize;
-        before[k] = lasts[a];
+        let twice = 2 * (k % MAX_PAIRS);
+        join(p.launch as usize, twice, lasts, before);
+        join(p.capture as usize, twice + 1, lasts, before);
         k += 1;
-        lasts[a] = k;
-        ahead[a] = k;
     }
 }
 
-// Where a walk stands: how many registers it is on its way through, how many are finished, and where it starts next.
+// Where a walk stands: how many registers wait to be visited, how many pairs have their place, and where it starts next.
 pub struct Walk {
-    pub open: usize,
-    pub done: usize,
+    pub waiting: usize,
+    pub placed: usize,
     pub start: usize,
 }
 
-// Register r comes next, if it has not been seen. The registers on the way stand in the first places of the line.
-fn enter(w: Walk, r: usize, line: &mut [usize; REGISTERS], seen: &mut [usize; REGISTERS]) -> Walk {
-    let at = w.open;
+// Marks of a register: it has not been met, it waits in the line, it is visited.
+const WAITS: usize = 1;
+
+const VISITED: usize = 2;
+
+// Register r waits at the end of the line, if it has not been met.
+fn enter(w: Walk, r: usize, line: &mut [usize; REGISTERS], marks: &mut [usize; REGISTERS]) -> Walk {
+    let at = w.waiting;
     if at >= REGISTERS {
         return w;
     }
     if r >= REGISTERS {
         return w;
     }
-    if seen[r] != 0 {
+    if marks[r] >= WAITS {
         return w;
     }
-    seen[r] = 1;
+    marks[r] = WAITS;
     line[at] = r;
     Walk {
-        open: at + 1,
-        done: w.done,
+        waiting: at + 1,
+        placed: w.placed,
         start: w.start,
     }
 }
 
-// The register entered last is finished. The finished ones stand in the last places of the line, the last one first.
-fn finish(w: Walk, r: usize, line: &mut [usize; REGISTERS]) -> Walk
-    requires { ⌜ 0 < w .open ⌝ }
-{
-    if w.done >= REGISTERS {
+// Pair k takes the next place, unless its other end has been visited.
+fn place(w: Walk, k: usize, other: usize, order: &mut [usize]) -> Walk {
+    let at = w.placed;
+    if other >= VISITED {
         return w;
     }
-    line[REGISTERS - 1 - w.done] = r;
+    if at >= order.len() {
+        return w;
+    }
+    order[at] = k;
     Walk {
-        open: w.open - 1,
-        done: w.done + 1,
+        waiting: w.waiting,
+        placed: at + 1,
         start: w.start,
     }
 }
 
-// A walk that has come to its end starts at the next of n registers.
-fn restart(
-    w: Walk,
-    n: usize,
-    line: &mut [usize; REGISTERS],
-    seen: &mut [usize; REGISTERS],
-) -> Walk {
-    if w.start < n {
-        let next = Walk {
-            open: w.open,
-            done: w.done,
-            start: w.start + 1,
-        };
-        return enter(next, w.start, line, seen);
+// The register at the other end.
+fn across(p: Pair, end: usize) -> usize {
+    if end % 2 == 1 {
+        p.capture as usize
+    } else {
+        p.launch as usize
     }
-    w
 }
 
-// From the register entered last along its next pair; if it has none left it is finished.
-fn follow(
+// Along the ends at register r: each pair gets its place, and the register across waits for its visit.
+fn visit(
     words: &[u32],
     count: usize,
     w: Walk,
-    ahead: &mut [usize; REGISTERS],
-    before: &[usize; MAX_PAIRS],
+    r: usize,
+    lasts: &[usize; REGISTERS],
+    before: &[usize; ENDS],
     line: &mut [usize; REGISTERS],
-    seen: &mut [usize; REGISTERS],
+    marks: &mut [usize; REGISTERS],
+    order: &mut [usize],
 ) -> Walk
     requires { ⌜ IsAccepted (now words) ⌝ }
     requires { ⌜ count ≡ pairCount (now words) ⌝ }
-    requires { ⌜ 0 < w .open ⌝ }
 {
-    let last = line[(w.open - 1) % REGISTERS];
-    let r = last % REGISTERS;
-    let k = ahead[r];
-    if k == 0 {
-        return finish(w, last, line);
+    let mut now = w;
+    let mut end = lasts[r % REGISTERS];
+    while end > 0 {
+        let k = (end - 1) / 2;
+        if k >= count {
+            return now;
+        }
+        let p = delay_list::pair_at(words, k);
+        let to = across(p, end);
+        now = place(now, k, marks[to % REGISTERS], order);
+        now = enter(now, to, line, marks);
+        let next = before[(end - 1) % ENDS];
+        if next >= end {
+            return now;
+        }
+        end = next;
     }
-    if k > count {
-        return w;
-    }
-    ahead[r] = before[k - 1];
-    let p = delay_list::pair_at(words, k - 1);
-    enter(w, p.capture as usize, line, seen)
+    now
 }
 
-// One turn of a walk.
+// One turn of a walk: the register that came last is visited, or one that was not met is put in the line.
 fn turn(
     words: &[u32],
     count: usize,
-    n: usize,
     w: Walk,
-    ahead: &mut [usize; REGISTERS],
-    before: &[usize; MAX_PAIRS],
+    lasts: &[usize; REGISTERS],
+    before: &[usize; ENDS],
     line: &mut [usize; REGISTERS],
-    seen: &mut [usize; REGISTERS],
+    marks: &mut [usize; REGISTERS],
+    order: &mut [usize],
 ) -> Walk
     requires { ⌜ IsAccepted (now words) ⌝ }
     requires { ⌜ count ≡ pairCount (now words) ⌝ }
 {
-    if w.open == 0 {
-        return restart(w, n, line, seen);
-    }
-    follow(words, count, w, ahead, before, line, seen)
-}
-
-// A walk through n registers; how many it finished. It starts at each of them, finishes each and follows each pair.
-fn explore(
-    words: &[u32],
-    count: usize,
-    n: usize,
-    ahead: &mut [usize; REGISTERS],
-    before: &[usize; MAX_PAIRS],
-    line: &mut [usize; REGISTERS],
-) -> usize
-    requires { ⌜ IsAccepted (now words) ⌝ }
-    requires { ⌜ count ≡ pairCount (now words) ⌝ }
-    requires { ⌜ n ≤ maxRegisters ⌝ }
-{
-    let mut seen = [0usize; REGISTERS];
-    let mut w = Walk {
-        open: 0,
-        done: 0,
-        start: 0,
-    };
-    let mut left = 2 * n + count;
-    while left > 0 {
-        left -= 1;
-        w = turn(words, count, n, w, ahead, before, line, &mut seen);
-    }
-    w.done
-}
-
-// The pairs of a register from the last one back, from place `at` on; the place after them.
-fn put(last: usize, before: &[usize; MAX_PAIRS], at: usize, order: &mut [usize]) -> usize {
-    let mut k = last;
-    let mut to = at;
-    while to < order.len() {
-        if k == 0 {
-            return to;
+    if w.waiting == 0 {
+        if w.start >= REGISTERS {
+            return w;
         }
-        order[to] = k - 1;
-        k = before[(k - 1) % MAX_PAIRS];
-        to += 1;
+        let next = Walk {
+            waiting: 0,
+            placed: w.placed,
+            start: w.start + 1,
+        };
+        return enter(next, w.start, line, marks);
     }
-    to
+    let left = w.waiting - 1;
+    let r = line[left % REGISTERS] % REGISTERS;
+    marks[r] = VISITED;
+    let on = Walk {
+        waiting: left,
+        placed: w.placed,
+        start: w.start,
+    };
+    visit(words, count, on, r, lasts, before, line, marks, order)
 }
 
-// The pairs of each of the last registers of the line.
-fn put_line(
-    line: &[usize; REGISTERS],
-    done: usize,
-    lasts: &[usize; REGISTERS],
-    before: &[usize; MAX_PAIRS],
-    order: &mut [usize],
-) {
-    let mut at = 0;
-    let mut left = done;
-    while left > 0 {
-        left -= 1;
-        let r = line[REGISTERS - 1 - left % REGISTERS] % REGISTERS;
-        at = put(lasts[r], before, at, order);
-    }
-}
-
-// The order that a walk through n registers gives.
+// The order that a walk through n registers gives. It starts at each of them and visits each.
 pub fn walked(words: &[u32], count: usize, n: usize, order: &mut [usize])
     requires { ⌜ IsAccepted (now words) ⌝ }
     requires { ⌜ count ≡ pairCount (now words) ⌝ }
     requires { ⌜ n ≤ maxRegisters ⌝ }
 {
     let mut lasts = [0usize; REGISTERS];
-    let mut ahead = [0usize; REGISTERS];
-    let mut before = [0usize; MAX_PAIRS];
+    let mut before = [0usize; ENDS];
     let mut line = [0usize; REGISTERS];
-    link(words, count, &mut lasts, &mut ahead, &mut before);
-    let done = explore(words, count, n, &mut ahead, &before, &mut line);
-    put_line(&line, done, &lasts, &before, order);
+    let mut marks = [0usize; REGISTERS];
+    link(words, count, &mut lasts, &mut before);
+    let mut w = Walk {
+        waiting: 0,
+        placed: 0,
+        start: 0,
+    };
+    let mut left = 2 * n;
+    while left > 0 {
+        left -= 1;
+        w = turn(
+            words,
+            count,
+            w,
+            &lasts,
+            &before,
+            &mut line,
+            &mut marks,
+            order,
+        );
+    }
 }
