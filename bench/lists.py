@@ -71,6 +71,27 @@ def ladder(n, seed):
     return n, [(a, b, *delays(rng, 1_000_000, 70, 99)) for a, b in links]
 
 
+def zigzag(n, seed):
+    """A chain whose pairs point to and fro, with no room between least and greatest."""
+    rng = random.Random(seed)
+    links = [(r, r + 1) if r % 2 else (r + 1, r) for r in range(n - 1)]
+    return n, [(a, b, *delays(rng, 1_000_000, 100, 100)) for a, b in links]
+
+
+def strands(n, times, seed):
+    """A chain with several pairs at each link."""
+    rng = random.Random(seed)
+    return n, [(r, r + 1, *delays(rng, 1_000_000, 95, 100)) for _ in range(times) for r in range(n - 1)]
+
+
+def grid(side, seed):
+    """Rows and columns of registers, 22 by 22 and the like."""
+    rng = random.Random(seed)
+    links = [(y * side + x, y * side + x + 1) for y in range(side) for x in range(side - 1)]
+    links += [(y * side + x, y * side + side + x) for y in range(side - 1) for x in range(side)]
+    return side * side, [(a, b, *delays(rng, 1_000_000, 80, 100)) for a, b in links]
+
+
 def turned(net):
     """The same net with its pairs in the other order."""
     n, pairs = net
@@ -107,6 +128,10 @@ def shapes():
         yield name, net
         yield name + ', turned', turned(net)
         yield name + ', mixed', mixed(net, 8)
+    yield 'zigzag, mixed', mixed(zigzag(512, 11), 8)
+    yield 'strands', strands(512, 4, 12)
+    yield 'strands, mixed', mixed(strands(512, 4, 12), 8)
+    yield 'grid, mixed', mixed(grid(22, 13), 8)
 
 
 def growth():

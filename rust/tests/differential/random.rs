@@ -56,7 +56,8 @@ pub struct Size {
     pub delay: u32,
 }
 
-/// A net of a random shape: any two registers, a chain, a chain listed from its end, a ring, or two rows with rungs.
+/// A net of a random shape: any two registers, a chain, a chain listed from its end, a ring, two rows with rungs, or a chain
+/// whose pairs point to and fro; in one case of three mixed.
 pub fn net(random: &mut Random, size: Size) -> Net {
     let n = 1 + random.below(size.registers);
     let m = random.below(size.pairs + 1);
@@ -64,15 +65,16 @@ pub fn net(random: &mut Random, size: Size) -> Net {
 }
 
 pub fn exact_net(random: &mut Random, n: usize, m: usize, delay: u32) -> Net {
-    let shape = random.below(5);
+    let shape = random.below(6);
     let tight = random.below(4) as u32;
-    let pairs = (0..m)
+    let mut pairs: Vec<Pair> = (0..m)
         .map(|k| {
             let (launch, capture) = match shape {
                 0 => (random.below(n), random.below(n)),
                 1 => (k % n, (k + 1).min(n - 1) % n),
                 2 => ((m - k) % n, (m - k + 1) % n),
                 3 => (k % n, (k + 1) % n),
+                4 => ((k + k % 2) % n, (k + 1 - k % 2) % n),
                 _ => (k % n, (k + n / 2 + random.below(2)) % n),
             };
             let greatest = random.upto(delay);
@@ -85,7 +87,26 @@ pub fn exact_net(random: &mut Random, n: usize, m: usize, delay: u32) -> Net {
             Pair { launch, capture, least, greatest }
         })
         .collect();
+    if random.one_in(3) {
+        mix(random, n, &mut pairs);
+    }
     Net { registers: n, pairs }
+}
+
+/// Registers renumbered and pairs shuffled.
+fn mix(random: &mut Random, n: usize, pairs: &mut [Pair]) {
+    let mut names: Vec<usize> = (0..n).collect();
+    shuffle(random, &mut names);
+    shuffle(random, pairs);
+    for p in pairs {
+        (p.launch, p.capture) = (names[p.launch], names[p.capture]);
+    }
+}
+
+fn shuffle<T>(random: &mut Random, xs: &mut [T]) {
+    for i in (1..xs.len()).rev() {
+        xs.swap(i, random.below(i + 1));
+    }
 }
 
 /// The words of a net, in one case of three damaged.
