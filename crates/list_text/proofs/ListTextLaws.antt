@@ -34,6 +34,7 @@ use Rattle.list_bytes.specs.ListBytes.{maxWords, maxBytes}
 use Rattle.scan.specs.declared.Scanned.{Scanned}
 use Rattle.scan.specs.declared.Scanned.the-variants.{Numbers, Faulty}
 use Rattle.scan.specs.Scan.{maxNumbers, storedOf, Counted, ScanAs}
+use Rattle.scan.proofs.StoredLaws.{stored-some, stored-first}
 use Rattle.list_text.specs.ListText.{textOf, shownDone, Product, listBytes, errorLine, madeRefused, madeDone, madeFrom, madeOf, made, storedFor, returnedFor, MadeAs}
 use Rattle.list_text.specs.declared.Made.{Made}
 use Rattle.list_text.specs.declared.Made.the-variants.{Bytes, Fault}
@@ -187,11 +188,7 @@ module _ {n : ℕ} {xs now : List ℕ} {r : Writing} (a : WrittenAs n xs (zeros 
 
 -- ---- the numbers of a text
 
--- the first number, and those after it
-first-is : (xs was : List ℕ) → 0 < length xs → getD (over xs was) 0 0 ≡ getD xs 0 0
-first-is [] was h = absurd (omega arith)
-first-is (x ∷ xs) was h = refl
-
+-- those after the first
 rest-is : (xs was : List ℕ) → 0 < length xs → take (length xs - 1) (drop 1 (over xs was)) ≡ drop 1 xs
 rest-is [] was h = absurd (omega arith)
 rest-is (x ∷ xs) was h =
@@ -216,7 +213,7 @@ module _ {text xs : List ℕ} {r : Scanned} (a : ScanAs true text (zeros maxNumb
         → MadeAs (made text) out out′ r
     unfolding madeOf
     make-numbers m =
-        let some : 0 < length (storedOf true text) = omega (arith, counted .size, counted .some) in
-        let here : made text ≡ madeFrom (getD xs 0 0) (take (count - 1) (drop 1 xs)) =
-        rw (← a .answer, e, a .stored, counted .size, first-is (storedOf true text) (zeros maxNumbers) some, rest-is (storedOf true text) (zeros maxNumbers) some) in
+        let rest : take (count - 1) (drop 1 xs) ≡ drop 1 (storedOf true text) =
+        rw (a .stored, counted .size) (rest-is (storedOf true text) (zeros maxNumbers) (stored-some a e)) in
+        let here : made text ≡ madeFrom (getD xs 0 0) (take (count - 1) (drop 1 xs)) = rw (← a .answer, e, stored-first a e, rest) in
         rw here m
