@@ -78,7 +78,7 @@ module _ {ws now : List ℕ} {r : Reading} (a : ReadAs ws (zeros (4 * maxPairs))
 
     numbers-stored : now ≡ over (numbersOf ws) (zeros (4 * maxPairs))
     unfolding bufferAfter
-    numbers-stored = rw (zeros-size (4 * maxPairs), is) at (a .buffer)
+    numbers-stored = rw (zeros-size (4 * maxPairs), is) at (a .stored)
 
     numbers-are : take (4 * m) now ≡ numbersOf ws
     numbers-are = filled-front (numbersOf ws) (zeros (4 * maxPairs)) count-size numbers-stored
@@ -167,7 +167,7 @@ module _ {n : ℕ} {xs now : List ℕ} {r : Writing} (a : WrittenAs n xs (zeros 
 
     words-stored : now ≡ over (wordsOf n xs) (zeros maxWords)
     unfolding bufferAfter
-    words-stored = rw (zeros-size maxWords, written) at (a .buffer)
+    words-stored = rw (zeros-size maxWords, written) at (a .stored)
 
     words-are : take count now ≡ wordsOf n xs
     words-are = filled-front (wordsOf n xs) (zeros maxWords) word-size words-stored
