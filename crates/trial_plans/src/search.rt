@@ -1,4 +1,4 @@
-// Random small lists: no split with any offset, counted in halves, beats the plan, and each place of the buffers is right.
+// Random small lists: no split with an offset up to ten, in halves, beats the plan, and each place of the buffers is right.
 use free_schedule::FreeAnswer;
 use list_format::Writing;
 use planner::Planning;
