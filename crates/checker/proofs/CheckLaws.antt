@@ -28,7 +28,7 @@ use Rattle.list_format.specs.Lists.{registers, pairCount, pairAt, pairs, listCh
 use Rattle.list_format.specs.declared.Verdict.the-variants as Verdict
 use Rattle.list_format.specs.declared.Verdict.the-variants.{Accepted}
 use Rattle.list_format.proofs.ListLaws.{refused→fault, accepted→none, none→accepted, same, each-pair, pair-holds}
-use Rattle.checker.specs.Check.{setupAt, holdAt, metAt, firstBroken, brokenRule, found, someLate, callChecks, checkChecks, checking, ruleNumber, checkReply, CheckedAs, Ready}
+use Rattle.checker.specs.Check.{setupAt, holdAt, metAt, firstBroken, brokenRule, found, someAbove, callChecks, checkChecks, checking, ruleNumber, checkReply, CheckedAs, Ready}
 use Rattle.checker.specs.declared.Rule.{Rule}
 use Rattle.checker.specs.declared.Rule.the-variants.{Setup, Hold}
 use Rattle.checker.specs.declared.Checking.{Checking}
@@ -200,25 +200,25 @@ module _ (ws : List ℕ) (t : ℕ) (s : List ℕ) where
 
 -- ---- the timings
 
--- whether a timing is late depends on those from place i on
+-- whether a timing is above the limit depends on those from place i on
 pub record Unseen (s : List ℕ) (i : ℕ) : Type 0 where
   pub bound : i ≤ length s
-  pub same : someLate (drop i s) ≡ someLate s
+  pub same : someAbove (drop i s) ≡ someAbove s
 
 pub unseen-start : {s : List ℕ} → Unseen s 0
 unseen-start = record { bound = zero-le; same = refl }
 
 module _ {s : List ℕ} {i : ℕ} (u : Unseen s i) (h : i < length s) where
-  unseen-next : ltb maxTiming (getD s i 0) || someLate (drop (suc i) s) ≡ someLate s
-  unfolding someLate
+  unseen-next : ltb maxTiming (getD s i 0) || someAbove (drop (suc i) s) ≡ someAbove s
+  unfolding someAbove
   unseen-next = rw (drop-cons s i 0) at (u .same)
 
   pub unseen-turn : getD s i 0 ≤ maxTiming → Unseen s (i + 1)
   unseen-turn l = record { bound = omega arith; same = rw add-one (rw (le-ltb maxTiming (getD s i 0) l) at unseen-next) }
 
-  pub unseen-stop : maxTiming < getD s i 0 → true ≡ someLate s
+  pub unseen-stop : maxTiming < getD s i 0 → true ≡ someAbove s
   unseen-stop l = rw (lt-ltb maxTiming (getD s i 0) l) at unseen-next
 
-pub unseen-end : {s : List ℕ} {i : ℕ} → Unseen s i → length s ≤ i → false ≡ someLate s
-unfolding someLate
+pub unseen-end : {s : List ℕ} {i : ℕ} → Unseen s i → length s ≤ i → false ≡ someAbove s
+unfolding someAbove
 unseen-end {s} {i} u h = rw (drop-of-length-le s {i = i} h) at (u .same)

@@ -48,9 +48,9 @@ found ws t s =
 -- ---- the call
 
 -- some timing is above the limit
-unfoldable pub someLate : List ℕ → Bool
-someLate [] = false
-someLate (x ∷ s) = ltb maxTiming x || someLate s
+unfoldable pub someAbove : List ℕ → Bool
+someAbove [] = false
+someAbove (x ∷ s) = ltb maxTiming x || someAbove s
 
 -- 3: the period or a timing out of range, or not a timing for each of n registers
 abbrev pub callChecks : ℕ → ℕ → List ℕ → List Check
@@ -58,7 +58,7 @@ callChecks n t s =
     (eqb t 0, 3, 0)
     ∷ (ltb maxPeriod t, 3, 0)
     ∷ (differ (length s) n, 3, 0)
-    ∷ (someLate s, 3, 0)
+    ∷ (someAbove s, 3, 0)
     ∷ []
 
 -- 11 to 17, then 3

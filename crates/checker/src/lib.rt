@@ -6,7 +6,7 @@ ghost use Rattle.timing.specs.Rules.{admissible};
 ghost use Rattle.refusals.specs.Checks.{firstFault};
 ghost use Rattle.refusals.specs.Reply.{numbers};
 ghost use Rattle.list_format.specs.Lists.{registers, pairs, PairIn};
-ghost use Rattle.checker.specs.Check.{metAt, firstBroken, brokenRule, found, someLate, callChecks, ruleNumber, checkReply, CheckedAs, Ready};
+ghost use Rattle.checker.specs.Check.{metAt, firstBroken, brokenRule, found, someAbove, callChecks, ruleNumber, checkReply, CheckedAs, Ready};
 use list_format::Verdict;
 use refusals::Fault;
 
@@ -86,8 +86,8 @@ fn checked(words: &[u32], count: usize, period: u32, timings: &[u32]) -> Checkin
 }
 
 // Whether some timing is above the limit.
-fn late(timings: &[u32]) -> bool
-    ensures { λ r. ⌜ r ≡ someLate (now (timings .entry)) ⌝ }
+fn above_limit(timings: &[u32]) -> bool
+    ensures { λ r. ⌜ r ≡ someAbove (now (timings .entry)) ⌝ }
 {
     let mut i = 0;
     while i < timings.len() {
@@ -107,7 +107,7 @@ fn call_fault(n: usize, period: u32, timings: &[u32]) -> Fault
         .or(period == 0, 3, 0)
         .or(period > timing::MAX_PERIOD, 3, 0)
         .or(timings.len() != n, 3, 0)
-        .or(late(timings), 3, 0)
+        .or(above_limit(timings), 3, 0)
 }
 
 // Checks a schedule at a period. Refusals 11 to 17 of the list, then 3: the period or a timing out of range, or not a

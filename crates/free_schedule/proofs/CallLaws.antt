@@ -51,7 +51,7 @@ module _ {ws : List ℕ} {n count : ℕ} {was : List ℕ} (r : Roomy ws n count 
   settled {common′} {free} {now} c f =
       record {
         reply = rw (done-is, c, f .period);
-        buffer = rw done-is (f .places);
+        stored = rw done-is (f .places);
         unbeaten = λ c₁ f₁ q.
             let z : f₁ ≡ free = cc in
             let first = take-at (freeSchedule (registers ws) (pairs ws)) (drop (length (freeSchedule (registers ws) (pairs ws))) was) (registers ws) (unbeaten-here .size) in
@@ -65,7 +65,7 @@ module _ (ws was : List ℕ) where
   refuses e =
       record {
         reply = rw e;
-        buffer = rw e;
+        stored = rw e;
         unbeaten = λ common free q. let z : _≡_ {A = ℕ} 0 1 = cc in absurd (omega arith);
       }
 

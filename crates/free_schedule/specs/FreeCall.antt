@@ -31,7 +31,7 @@ freeReply (Refused number place) = refusal number place
 -- the call with the words ws and a buffer that held `was` and holds `now`
 pub record FreeAs (ws was now : List ℕ) (r : FreeAnswer) : Type 0 where
   pub reply : freeReply r ≡ replyOf (freeing ws (length was))
-  pub buffer : now ≡ bufferAfter (freeing ws (length was)) was
+  pub stored : now ≡ bufferAfter (freeing ws (length was)) was
   -- no rival beats the free period returned and the schedule in the first n places
   pub unbeaten : (common free : ℕ) → r ≡ Periods common free → UnbeatenFree (registers ws) (pairs ws) free (take (registers ws) now)
 

@@ -57,7 +57,7 @@ module _ {ws now : List ℕ} {r : FreeAnswer} (a : FreeAs ws (zeros maxRegisters
         → Put jobPlaces (told refusalLine (freeDone (registers ws)) (freeOf ws)) text 0 text′ next
     free-periods {n} h put =
         let few : n ≤ maxRegisters = omega (arith, free-in .most) in
-        let stored : now ≡ bufferAfter (freeOf ws) (zeros maxRegisters) = rw (zeros-size maxRegisters) at (a .buffer) in
+        let stored : now ≡ bufferAfter (freeOf ws) (zeros maxRegisters) = rw (zeros-size maxRegisters) at (a .stored) in
         rw (told-numbers refusalLine (freeDone (registers ws)) (zeros maxRegisters) (free-same (registers ws) maxRegisters) (freeOf ws) free-told, ← stored, ← h)
         (put-within put (omega (arith, put .most)))
 

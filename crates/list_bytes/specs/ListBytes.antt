@@ -1,11 +1,12 @@
 -- The words of a delay list that came as bytes.
-use Prim.Native.Nat.{ℕ, _+_, _*_, _/_, _%_, _≤_}
+use Prim.Native.Nat.{ℕ, _+_, _*_, _/_, _%_}
 use mathlib.Core.Bool.{cond}
 use mathlib.Core.List.{List, []}
 use mathlib.Core.Path.{_≡_}
 use lib.Dec.{ltb, eqb}
-use lib.ListN.{length, take}
+use lib.ListN.{length}
 use Rattle.timing.specs.Limits.{maxPairs}
+use Rattle.buffers.specs.Over.{over}
 use Rattle.words.specs.Bytes.{toWords}
 use Rattle.list_format.specs.Lists.{pairPlace}
 
@@ -20,8 +21,7 @@ maxBytes = 4 * maxWords
 unfoldable pub listOf : List ℕ → List ℕ
 listOf bs = cond (ltb maxBytes (length bs)) [] (cond (eqb (length bs % 4) 0) (toWords bs (length bs / 4)) [])
 
--- the words of the bytes bs stand in the first places of a buffer that holds `now`
-pub record LoadedAs (bs now : List ℕ) (count : ℕ) : Type 0 where
-  pub room : count ≤ length now
-  pub most : count ≤ maxWords
-  pub words : take count now ≡ listOf bs
+-- the words of the bytes bs stand in the first places of a buffer that held `was` and holds `now`; its later places are kept
+pub record LoadedAs (bs was now : List ℕ) (count : ℕ) : Type 0 where
+  pub size : count ≡ length (listOf bs)
+  pub words : now ≡ over (listOf bs) was

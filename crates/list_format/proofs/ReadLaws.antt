@@ -28,7 +28,7 @@ module _ (ws was : List ℕ) where
   not-read e =
       record {
         reply = rw e;
-        buffer = rw e;
+        stored = rw e;
         back = λ n m r. let z : _≡_ {A = ℕ} 0 1 = cc in absurd (omega arith);
       }
 
@@ -58,7 +58,7 @@ module _ (ws was : List ℕ) where
     unfolding replyOf bufferAfter readReply
     read-done now h s =
         let a = accepted→none ws v in
-        record { reply = rw (done-is h, a .registersAre, a .pairsAre); buffer = rw (done-is h) s; back = again }
+        record { reply = rw (done-is h, a .registersAre, a .pairsAre); stored = rw (done-is h) s; back = again }
       where
         again : (k l : ℕ) → Read n m ≡ Read k l → (room : ℕ) → length ws ≤ room → writing k (take (4 * l) now) room ≡ done (length ws ∷ []) ws
         again k l e room r =

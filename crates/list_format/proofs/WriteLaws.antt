@@ -42,7 +42,7 @@ module _ (n : ℕ) (xs was : List ℕ) where
       let r : writing n xs (length was) ≡ refused _ _ = answered-refused (writeChecks n xs (length was)) _ e in
       record {
         reply = rw r;
-        buffer = rw r;
+        stored = rw r;
         back = λ count w. let z : _≡_ {A = ℕ} 0 1 = cc in absurd (omega arith);
       }
 
@@ -59,7 +59,7 @@ module _ (n : ℕ) (xs was : List ℕ) where
     unfolding writing replyOf bufferAfter writeReply
     write-done now count c s =
         let d : writing n xs (length was) ≡ done ((pairPlace (givenCount xs) + 1) ∷ []) (wordsOf n xs) = answered-done (writeChecks n xs (length was)) _ none in
-        record { reply = rw (d, c); buffer = rw d s; back = again }
+        record { reply = rw (d, c); stored = rw d s; back = again }
       where
         again : (k : ℕ) → Written count ≡ Written k → (room : ℕ) → length xs ≤ room → reading (take k now) room ≡ done (n ∷ givenCount xs ∷ []) xs
         again k e room r =

@@ -14,13 +14,13 @@ use Rattle.list_format.specs.declared.Writing.the-variants.{Written}
 -- the words ws were read into a buffer that held `was` and holds `now`
 pub record ReadAs (ws was now : List ℕ) (r : Reading) : Type 0 where
   pub reply : readReply r ≡ replyOf (reading ws (length was))
-  pub buffer : now ≡ bufferAfter (reading ws (length was)) was
+  pub stored : now ≡ bufferAfter (reading ws (length was)) was
   -- what was read, written again, is the list word for word
   pub back : (n m : ℕ) → r ≡ Read n m → (room : ℕ) → length ws ≤ room → writing n (take (4 * m) now) room ≡ done (length ws ∷ []) ws
 
 -- the numbers xs of n registers were written into a buffer that held `was` and holds `now`
 pub record WrittenAs (n : ℕ) (xs was now : List ℕ) (r : Writing) : Type 0 where
   pub reply : writeReply r ≡ replyOf (writing n xs (length was))
-  pub buffer : now ≡ bufferAfter (writing n xs (length was)) was
+  pub stored : now ≡ bufferAfter (writing n xs (length was)) was
   -- what was written, read again, gives the same count of registers and the same numbers
   pub back : (count : ℕ) → r ≡ Written count → (room : ℕ) → length xs ≤ room → reading (take count now) room ≡ done (n ∷ givenCount xs ∷ []) xs

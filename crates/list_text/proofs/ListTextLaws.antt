@@ -2,7 +2,7 @@
 use Prim.Native.Nat.{ℕ, suc, _+_, _-_, _*_, _≤_, _<_}
 use mathlib.Core.Bool.{true}
 use mathlib.Core.List.{List, [], _∷_}
-use mathlib.Core.Path.{_≡_, refl, sym, _∙_}
+use mathlib.Core.Path.{_≡_, refl, sym, _∙_, ap}
 use native.Mathlib.Omega.{arith}
 use lib.ListN.{length, getD, take, drop}
 use lib.Seq.{take-at}
@@ -34,7 +34,10 @@ use Rattle.list_bytes.specs.ListBytes.{maxWords, maxBytes}
 use Rattle.scan.specs.declared.Scanned.{Scanned}
 use Rattle.scan.specs.declared.Scanned.the-variants.{Numbers, Faulty}
 use Rattle.scan.specs.Scan.{maxNumbers, storedOf, Counted, ScanAs}
-use Rattle.list_text.specs.ListText.{textOf, shownDone, madeDone, madeOf, made}
+use Rattle.scan.proofs.StoredLaws.{stored-some, stored-first}
+use Rattle.list_text.specs.ListText.{textOf, shownDone, Product, listBytes, errorLine, madeRefused, madeDone, madeFrom, madeOf, made, storedFor, returnedFor, MadeAs}
+use Rattle.list_text.specs.declared.Made.{Made}
+use Rattle.list_text.specs.declared.Made.the-variants.{Bytes, Fault}
 
 -- ---- showing
 
@@ -75,7 +78,7 @@ module _ {ws now : List ℕ} {r : Reading} (a : ReadAs ws (zeros (4 * maxPairs))
 
     numbers-stored : now ≡ over (numbersOf ws) (zeros (4 * maxPairs))
     unfolding bufferAfter
-    numbers-stored = rw (zeros-size (4 * maxPairs), is) at (a .buffer)
+    numbers-stored = rw (zeros-size (4 * maxPairs), is) at (a .stored)
 
     numbers-are : take (4 * m) now ≡ numbersOf ws
     numbers-are = filled-front (numbersOf ws) (zeros (4 * maxPairs)) count-size numbers-stored
@@ -103,14 +106,41 @@ bytes-put ws was now room e =
     let size = bytes-size ws (length ws) in
     record { most = omega (arith, size); room = omega (arith, size); after = omega (arith, size); is = e }
 
+module _ {piece out out′ : List ℕ} {next : ℕ} where
+  pub made-bytes : Put maxBytes piece out 0 out′ next → MadeAs (listBytes piece) out out′ (Bytes next)
+  unfolding returnedFor storedFor
+  made-bytes put =
+      let e : next ≡ length piece = omega (arith, put .after) in
+      record { answer = rw e; stored = rw e at put }
+
+  pub made-fault : Put 133 piece out 0 out′ next → MadeAs (errorLine piece) out out′ (Fault next)
+  unfolding returnedFor storedFor
+  made-fault put =
+      let e : next ≡ length piece = omega (arith, put .after) in
+      record { answer = rw e; stored = rw e at (put-within put {v = maxBytes} (omega (arith, put .most))) }
+
+-- the count of bytes that is returned
+abbrev pub countOf : Made → ℕ
+countOf (Bytes count) = count
+countOf (Fault count) = count
+
+-- that many bytes can be lent
+pub made-put : {p : Product} {out out′ : List ℕ} {r : Made} {count : ℕ} → MadeAs p out out′ r → countOf r ≡ count → Put maxBytes (storedFor p) out 0 out′ count
+unfolding returnedFor storedFor
+made-put {p} {out} {out′} {r} {count} a e = rw (size p ∙ ap countOf (sym (a .answer)) ∙ e) at (a .stored)
+  where
+    size : (p : Product) → length (storedFor p) ≡ countOf (returnedFor p)
+    size (listBytes bs) = refl
+    size (errorLine bs) = refl
+
 module _ {n : ℕ} {xs now : List ℕ} {r : Writing} (a : WrittenAs n xs (zeros maxWords) now r) where
   answer : writeReply r ≡ replyOf (writing n xs maxWords)
   answer = rw (zeros-size maxWords) at (a .reply)
 
   pub make-refused : {number place next : ℕ} {out out′ : List ℕ} → r ≡ NotWritten number place → Put 133 (refusalLine number place) out 0 out′ next
-      → Put maxBytes (told refusalLine madeDone (writing n xs maxWords)) out 0 out′ next
+      → MadeAs (madeFrom n xs) out out′ (Fault next)
   unfolding writeReply
-  make-refused e put = rw (told-refusal refusalLine madeDone (writing n xs maxWords) (rw e at answer)) (put-within put (omega (arith, put .most)))
+  make-refused e put = rw (told-refusal madeRefused madeDone (writing n xs maxWords) (rw e at answer)) (made-fault put)
 
   module _ {count : ℕ} (e : r ≡ Written count) where
     given : numbers (count ∷ []) ≡ replyOf (writing n xs maxWords)
@@ -137,7 +167,7 @@ module _ {n : ℕ} {xs now : List ℕ} {r : Writing} (a : WrittenAs n xs (zeros 
 
     words-stored : now ≡ over (wordsOf n xs) (zeros maxWords)
     unfolding bufferAfter
-    words-stored = rw (zeros-size maxWords, written) at (a .buffer)
+    words-stored = rw (zeros-size maxWords, written) at (a .stored)
 
     words-are : take count now ≡ wordsOf n xs
     words-are = filled-front (wordsOf n xs) (zeros maxWords) word-size words-stored
@@ -150,19 +180,15 @@ module _ {n : ℕ} {xs now : List ℕ} {r : Writing} (a : WrittenAs n xs (zeros 
     written-size = rw words-are (sym word-size)
 
     pub make-written : {next : ℕ} {out out′ : List ℕ} → Put (4 * length (take count now)) (toBytes (take count now) (length (take count now))) out 0 out′ next
-        → Put maxBytes (told refusalLine madeDone (writing n xs maxWords)) out 0 out′ next
+        → MadeAs (madeFrom n xs) out out′ (Bytes next)
     unfolding told
     make-written put =
-        let here : told refusalLine madeDone (writing n xs maxWords) ≡ toBytes (take count now) (length (take count now)) = rw (written, words-are) in
-        rw here (put-within put (omega (arith, put .most, written-size, written-few)))
+        let here : madeFrom n xs ≡ listBytes (toBytes (take count now) (length (take count now))) = rw (written, words-are) in
+        rw here (made-bytes (put-within put (omega (arith, put .most, written-size, written-few))))
 
 -- ---- the numbers of a text
 
--- the first number, and those after it
-first-is : (xs was : List ℕ) → 0 < length xs → getD (over xs was) 0 0 ≡ getD xs 0 0
-first-is [] was h = absurd (omega arith)
-first-is (x ∷ xs) was h = refl
-
+-- those after the first
 rest-is : (xs was : List ℕ) → 0 < length xs → take (length xs - 1) (drop 1 (over xs was)) ≡ drop 1 xs
 rest-is [] was h = absurd (omega arith)
 rest-is (x ∷ xs) was h =
@@ -170,11 +196,11 @@ rest-is (x ∷ xs) was h =
     rw e (take-at xs (drop (suc (length xs)) was) (length xs) refl)
 
 module _ {text xs : List ℕ} {r : Scanned} (a : ScanAs true text (zeros maxNumbers) xs r) where
-  pub make-faulty : {fault line next : ℕ} {out out′ : List ℕ} → r ≡ Faulty fault line → Put 133 (faultLine fault line) out 0 out′ next → Put maxBytes (made text) out 0 out′ next
+  pub make-faulty : {fault line next : ℕ} {out out′ : List ℕ} → r ≡ Faulty fault line → Put 133 (faultLine fault line) out 0 out′ next → MadeAs (made text) out out′ (Fault next)
   unfolding madeOf
   make-faulty {fault} {line} e put =
-      let here : made text ≡ faultLine fault line = rw (← a .answer, e) in
-      rw here (put-within put (omega (arith, put .most)))
+      let here : made text ≡ errorLine (faultLine fault line) = rw (← a .answer, e) in
+      rw here (made-fault put)
 
   module _ {count : ℕ} (e : r ≡ Numbers count) where
     counted : Counted (storedOf true text) count
@@ -183,11 +209,11 @@ module _ {text xs : List ℕ} {r : Scanned} (a : ScanAs true text (zeros maxNumb
     pub numbers-some : 1 ≤ count
     numbers-some = counted .some
 
-    pub make-numbers : {next : ℕ} {out out′ : List ℕ} → Put maxBytes (told refusalLine madeDone (writing (getD xs 0 0) (take (count - 1) (drop 1 xs)) maxWords)) out 0 out′ next
-        → Put maxBytes (made text) out 0 out′ next
+    pub make-numbers : {r : Made} {out out′ : List ℕ} → MadeAs (madeFrom (getD xs 0 0) (take (count - 1) (drop 1 xs))) out out′ r
+        → MadeAs (made text) out out′ r
     unfolding madeOf
-    make-numbers put =
-        let some : 0 < length (storedOf true text) = omega (arith, counted .size, counted .some) in
-        let here : made text ≡ told refusalLine madeDone (writing (getD xs 0 0) (take (count - 1) (drop 1 xs)) maxWords) =
-        rw (← a .answer, e, a .stored, counted .size, first-is (storedOf true text) (zeros maxNumbers) some, rest-is (storedOf true text) (zeros maxNumbers) some) in
-        rw here put
+    make-numbers m =
+        let rest : take (count - 1) (drop 1 xs) ≡ drop 1 (storedOf true text) =
+        rw (a .stored, counted .size) (rest-is (storedOf true text) (zeros maxNumbers) (stored-some a e)) in
+        let here : made text ≡ madeFrom (getD xs 0 0) (take (count - 1) (drop 1 xs)) = rw (← a .answer, e, stored-first a e, rest) in
+        rw here m

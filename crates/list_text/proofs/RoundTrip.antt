@@ -29,7 +29,7 @@ use Rattle.scan.proofs.ReadsLaws.{Reads, reads-none, reads-then, at, reads-spac
 use Rattle.plain_words.specs.PlainWords.{refusalLine}
 use Rattle.list_bytes.specs.ListBytes.{maxWords, maxBytes, listOf}
 use Rattle.list_bytes.proofs.LoadLaws.{list-back}
-use Rattle.list_text.specs.ListText.{fourLine, pairLine, textOf, shownDone, shown, madeOf, made}
+use Rattle.list_text.specs.ListText.{fourLine, pairLine, textOf, shownDone, shown, listBytes, madeOf, made}
 
 -- a number of at most k digits, with the byte that ends it
 short : (k n end : ℕ) → n < 10 ^ suc k → length (number n end) ≤ k + 2
@@ -139,7 +139,7 @@ module _ (ws : List ℕ) (l : ListIn ws) where
   unfolding storedOf text
   stored-is = rw (le-ltb textBytes (length text) text-short, kept-none, append-nil, text-reads .numbers)
 
-  pub made-is : made (textOf (registers ws) (numbersOf ws)) ≡ toBytes ws (length ws)
+  pub made-is : made (textOf (registers ws) (numbersOf ws)) ≡ listBytes (toBytes ws (length ws))
   unfolding madeOf told text
   made-is = rw (scan-is, stored-is, read-back ws l maxWords (omega (arith, l .head .size, l .head .few)))
 
@@ -163,9 +163,9 @@ counts bs = go (ltb maxBytes (length bs)) refl (eqb (length bs % 4) 0) refl
     go false e true e′ h = (ltb-false maxBytes (length bs) e, eqb-true (length bs % 4) 0 e′)
     go false e false e′ h = absurd (omega arith)
 
--- what is shown of the bytes of an accepted list, made into a list again, is those bytes
-pub shown-made : (bs : List ℕ) → ((i : ℕ) → getD bs i 0 < 2 ^ 8) → IsAccepted (listOf bs) → made (shown bs) ≡ bs
+-- what is shown of the bytes of an accepted list makes a list again, of those bytes
+pub shown-made : (bs : List ℕ) → ((i : ℕ) → getD bs i 0 < 2 ^ 8) → IsAccepted (listOf bs) → made (shown bs) ≡ listBytes bs
 shown-made bs small a =
     let l = accepted-in (listOf bs) a in
     let both = counts bs (omega (arith, l .head .size)) in
-    rw (shown-is (listOf bs) a) (made-is (listOf bs) l ∙ list-back bs (both .0) (both .1) small)
+    rw (shown-is (listOf bs) a) (made-is (listOf bs) l ∙ ap listBytes (list-back bs (both .0) (both .1) small))

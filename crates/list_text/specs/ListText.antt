@@ -2,6 +2,7 @@
 use Prim.Native.Nat.{ℕ, _+_, _*_}
 use mathlib.Core.Bool.{true}
 use mathlib.Core.List.{List, _++_}
+use mathlib.Core.Path.{_≡_}
 use lib.ListN.{length, getD, drop}
 use Rattle.timing.specs.Limits.{maxPairs}
 use Rattle.buffers.specs.Run.{run}
@@ -9,12 +10,14 @@ use Rattle.words.specs.Bytes.{toBytes}
 use Rattle.refusals.specs.Reply.{told}
 use Rattle.list_format.specs.Read.{reading}
 use Rattle.list_format.specs.Write.{givenCount, writing}
-use Rattle.pieces.specs.Pieces.{number, space, newline}
+use Rattle.pieces.specs.Pieces.{number, space, newline, Put}
 use Rattle.scan.specs.declared.Scanned.{Scanned}
 use Rattle.scan.specs.declared.Scanned.the-variants.{Numbers, Faulty}
 use Rattle.scan.specs.Scan.{scanned, storedOf}
 use Rattle.plain_words.specs.PlainWords.{refusalLine, faultLine}
-use Rattle.list_bytes.specs.ListBytes.{maxWords, listOf}
+use Rattle.list_bytes.specs.ListBytes.{maxWords, maxBytes, listOf}
+use Rattle.list_text.specs.declared.Made.{Made}
+use Rattle.list_text.specs.declared.Made.the-variants.{Bytes, Fault}
 
 -- ---- from a list to its text
 
@@ -40,15 +43,42 @@ shown bs = told refusalLine shownDone (reading (listOf bs) (4 * maxPairs))
 
 -- ---- from a text to the bytes of its list
 
+-- what a text comes to: the bytes of a list, or a line that says what is wrong
+pub data Product : Type 0 where
+  listBytes : List ℕ → Product
+  errorLine : List ℕ → Product
+
+abbrev pub madeRefused : ℕ → ℕ → Product
+madeRefused number place = errorLine (refusalLine number place)
+
 -- the bytes of all words that writing stores
-abbrev pub madeDone : List ℕ → List ℕ → List ℕ
-madeDone returned stored = toBytes stored (length stored)
+abbrev pub madeDone : List ℕ → List ℕ → Product
+madeDone returned stored = listBytes (toBytes stored (length stored))
+
+-- from the count of registers and the numbers of the pairs
+abbrev pub madeFrom : ℕ → List ℕ → Product
+madeFrom n xs = told madeRefused madeDone (writing n xs maxWords)
 
 -- from the numbers of a text: the count of registers, then four for each pair
-unfoldable pub madeOf : Scanned → List ℕ → List ℕ
-madeOf (Faulty fault line) xs = faultLine fault line
-madeOf (Numbers count) xs = told refusalLine madeDone (writing (getD xs 0 0) (drop 1 xs) maxWords)
+unfoldable pub madeOf : Scanned → List ℕ → Product
+madeOf (Faulty fault line) xs = errorLine (faultLine fault line)
+madeOf (Numbers count) xs = madeFrom (getD xs 0 0) (drop 1 xs)
 
 -- what is made of a text
-abbrev pub made : List ℕ → List ℕ
+abbrev pub made : List ℕ → Product
 made bs = madeOf (scanned true bs) (storedOf true bs)
+
+-- the bytes stored
+unfoldable pub storedFor : Product → List ℕ
+storedFor (listBytes bs) = bs
+storedFor (errorLine bs) = bs
+
+-- what is returned: which of the two, and the count of its bytes
+unfoldable pub returnedFor : Product → Made
+returnedFor (listBytes bs) = Bytes (length bs)
+returnedFor (errorLine bs) = Fault (length bs)
+
+-- the product p is returned as r, and stored in the first places of a buffer that held `was` and holds `now`
+pub record MadeAs (p : Product) (was now : List ℕ) (r : Made) : Type 0 where
+  pub answer : r ≡ returnedFor p
+  pub stored : Put maxBytes (storedFor p) was 0 now (length (storedFor p))

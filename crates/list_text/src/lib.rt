@@ -6,10 +6,9 @@ ghost use Rattle.pieces.specs.Pieces.{Put};
 ghost use Rattle.refusals.specs.Reply.{told};
 ghost use Rattle.plain_words.specs.PlainWords.{refusalLine};
 ghost use Rattle.list_format.specs.Read.{reading};
-ghost use Rattle.list_format.specs.Write.{writing};
-ghost use Rattle.list_bytes.specs.ListBytes.{maxWords, maxBytes};
+ghost use Rattle.list_bytes.specs.ListBytes.{maxBytes};
 ghost use Rattle.timing.specs.Limits.{maxPairs};
-ghost use Rattle.list_text.specs.ListText.{fourLine, pairLine, textOf, shownDone, shown, madeDone, made};
+ghost use Rattle.list_text.specs.ListText.{fourLine, pairLine, textOf, shownDone, shown, madeFrom, made, MadeAs};
 ghost use Rattle.buffers.specs.Run.{run};
 ghost use Rattle.words.specs.Bytes.{toBytes};
 use list_bytes::MAX_BYTES;
@@ -104,26 +103,41 @@ fn put_bytes(out: &mut [u8], words: &[u32]) -> usize
     4 * count
 }
 
+// What a text comes to, with the count of bytes stored: the bytes of its list, or a line that says what is wrong.
+pub enum Made {
+    Bytes(usize),
+    Fault(usize),
+}
+
 // The bytes of the list that the numbers make.
-fn put_made(out: &mut [u8], n: u32, numbers: &[u32]) -> usize
+fn put_made(out: &mut [u8], n: u32, numbers: &[u32]) -> Made
     requires { ⌜ maxBytes ≤ length (now out) ⌝ }
-    ensures { λ r. ⌜ Put maxBytes (told refusalLine madeDone (writing n (now (numbers .entry)) maxWords)) (now (out .entry)) 0 (now (out .exit)) r ⌝ }
+    ensures { λ r. ⌜ MadeAs (madeFrom n (now (numbers .entry))) (now (out .entry)) (now (out .exit)) r ⌝ }
 {
     let mut words = [0u32; MAX_WORDS];
     match write_list::write(n, numbers, &mut words) {
-        Writing::Refused(number, place) => plain_words::put_refusal(out, number, place),
-        Writing::Written(count) => put_bytes(out, &words[..count]),
+        Writing::Refused(number, place) => {
+            let size = plain_words::put_refusal(out, number, place);
+            Made::Fault(size)
+        }
+        Writing::Written(count) => {
+            let size = put_bytes(out, &words[..count]);
+            Made::Bytes(size)
+        }
     }
 }
 
 // The bytes of the list that a text describes, in the first places of `out`; later places keep their contents. Of a faulty text, or of
-// numbers that make no list, one line says what is wrong. The count of the bytes is returned.
-pub fn make(text: &[u8], out: &mut [u8; MAX_BYTES]) -> usize
-    ensures { λ r. ⌜ Put maxBytes (made (now (text .entry))) (now (out .entry)) 0 (now (out .exit)) r ⌝ }
+// numbers that make no list, one line says what is wrong.
+pub fn make(text: &[u8], out: &mut [u8; MAX_BYTES]) -> Made
+    ensures { λ r. ⌜ MadeAs (made (now (text .entry))) (now (out .entry)) (now (out .exit)) r ⌝ }
 {
     let mut numbers = [0u32; MAX_NUMBERS];
     match scan::scan(text, true, &mut numbers) {
-        Scanned::Faulty(fault, line) => plain_words::put_fault(out, fault, line),
+        Scanned::Faulty(fault, line) => {
+            let size = plain_words::put_fault(out, fault, line);
+            Made::Fault(size)
+        }
         Scanned::Numbers(count) => put_made(out, numbers[0], &numbers[1..count]),
     }
 }

@@ -5,7 +5,7 @@ ghost use Prim.Native.Nat.{_<_};
 ghost use lib.ListN.{length};
 ghost use Rattle.timing.specs.Rules.{pairMet, InRange};
 ghost use Rattle.split_laws.specs.Split.{timing as timingOf};
-ghost use Rattle.split_laws.specs.Table.{isLate, RowIs, flagAt};
+ghost use Rattle.split_laws.specs.Table.{isLate, rowAt, flagAt};
 ghost use Rattle.split_laws.specs.Marks.{joined, Forced, Followed, Applied, Seeded, Settles};
 use split_laws::Change;
 use split_laws::Row;
@@ -46,7 +46,7 @@ const ROWS: [Row; 4] = [
 
 fn row_at(k: usize) -> Row
     requires { ⌜ k < 4 ⌝ }
-    ensures { λ r. ⌜ RowIs k r ⌝ }
+    ensures { λ r. ⌜ r ≡ rowAt k ⌝ }
 {
     ROWS[k]
 }

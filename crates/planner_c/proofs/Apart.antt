@@ -22,7 +22,12 @@ use Rattle.free_schedule.specs.FreeCall.{freeing}
 use Rattle.split_laws.specs.Split.{Found, firstSplit}
 use Rattle.split.specs.Splitting.{splitting, shown}
 use Rattle.planner.specs.PlanCall.{planning}
-use Rattle.planner_c.specs.Coded.{statusOf, counted, placesOf, Told, Tellable}
+use Rattle.planner_c.specs.Coded.{statusOf, counted, placesOf, Told}
+
+-- an answer that a status and five places can hold
+unfoldable pub Tellable : Reply → Type 0
+Tellable (refusal number place) = 0 < number
+Tellable (numbers xs) = length xs ≤ 4
 
 -- ---- told apart
 

@@ -1,5 +1,5 @@
 -- An answer as plain numbers: a status, and five places of a reply.
-use Prim.Native.Nat.{ℕ, _<_, _≤_}
+use Prim.Native.Nat.{ℕ}
 use mathlib.Core.List.{List, [], _∷_}
 use mathlib.Core.Path.{_≡_}
 use lib.ListN.{length, getD}
@@ -23,8 +23,3 @@ placesOf (numbers xs) = counted xs
 pub record Told (answer : Reply) (r : ℕ) (reply : List ℕ) : Type 0 where
   pub status : r ≡ statusOf answer
   pub places : reply ≡ placesOf answer
-
--- an answer that a status and five places can hold
-unfoldable pub Tellable : Reply → Type 0
-Tellable (refusal number place) = 0 < number
-Tellable (numbers xs) = length xs ≤ 4

@@ -3,8 +3,8 @@
 use text_programs::print_check;
 
 fn main() {
-    text_programs::make_list(os::open_read(b"empty"));
-    text_programs::make_list(os::open_read(b"faulty"));
+    text_programs::make_list(os::open_read(b"empty"), libc::STDOUT_FILENO);
+    text_programs::make_list(os::open_read(b"faulty"), libc::STDOUT_FILENO);
     text_programs::free_schedule_of(os::open_read(b"refused"));
     text_programs::print_split(os::open_read(b"list"), 6, 4);
     print_check(os::open_read(b"list"), 7, os::open_read(b"late"));

@@ -13,10 +13,10 @@ use Rattle.split_laws.specs.Split.{timing, timings}
 use Rattle.split_laws.specs.Table.{isLate, flagAt}
 use Rattle.split_laws.specs.Marks.{splitOf, Flagged}
 use Rattle.split_laws.proofs.ClosureLaws.{time-of, length-splitOf, getD-splitOf}
-use Rattle.propagate.specs.Store.{flagsTo, fourAt, Recorded, Ready}
+use Rattle.propagate.specs.Store.{flagsTo, fourAt, Recorded, Lent}
 
-pub ready-kept : {ws : List ℕ} {n : ℕ} {S S′ : List ℕ} → Ready ws n S → length S′ ≡ length S → Ready ws n S′
-ready-kept r e = record { accepted = r .accepted; registersAre = r .registersAre; room = rw e (r .room) }
+pub lent-kept : {ws : List ℕ} {n : ℕ} {S S′ : List ℕ} → Lent ws n S → length S′ ≡ length S → Lent ws n S′
+lent-kept r e = record { accepted = r .accepted; registersAre = r .registersAre; room = rw e (r .room) }
 
 -- ---- flags
 

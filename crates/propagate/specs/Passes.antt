@@ -1,5 +1,5 @@
 -- What a pass over the pairs promises. It speaks of all splits that work: each that agreed with the marks still does,
--- and a clash says that none works.
+-- and a clash says that no split that works agrees with the marks.
 use mathlib.Core.Path.{_≡_}
 use mathlib.Core.Bool.{Bool, true, false, cond}
 use mathlib.Core.List.{List}
@@ -44,7 +44,7 @@ abbrev pub Said : Bool → List ℕ → ℕ → List ℕ → List ℕ → Type 0
 Said true ws n S S′ = AllClosed ws (drop (6 * n) S) (take n S′)
 Said false ws n S S′ = (c : List Bool) → Working ws (drop (6 * n) S) c → Agrees c (take n S) → ⊥
 
--- true: no pair forces more; false: no split works
+-- true: no pair forces more; false: no split that works agrees with the marks
 pub record Propagated (ws : List ℕ) (n : ℕ) (S S′ : List ℕ) (r : Bool) : Type 0 where
   pub carried : Carried ws n S S′
   pub said : Said r ws n S S′

@@ -24,7 +24,7 @@ pub record Recorded (t s : ℕ) (ws F : List ℕ) : Type 0 where
   pub each : (k : ℕ) → k < pairCount ws → Flagged t s (pairAt ws k) (fourAt F (4 * k))
 
 -- an accepted list with n registers, and room for a trial
-pub record Ready (ws : List ℕ) (n : ℕ) (S : List ℕ) : Type 0 where
+pub record Lent (ws : List ℕ) (n : ℕ) (S : List ℕ) : Type 0 where
   pub accepted : IsAccepted ws
   pub registersAre : n ≡ registers ws
   pub room : 6 * n + 4 * pairCount ws ≤ length S

@@ -8,7 +8,7 @@ ghost use Rattle.buffers.specs.Over.{over};
 ghost use Rattle.list_format.specs.Lists.{pairCount, IsAccepted};
 ghost use Rattle.split_laws.specs.Split.{timings};
 ghost use Rattle.split_laws.specs.Marks.{splitOf};
-ghost use Rattle.propagate.specs.Store.{flagsTo, fourAt, Ready, Prepared, Decided};
+ghost use Rattle.propagate.specs.Store.{flagsTo, fourAt, Lent, Prepared, Decided};
 ghost use Rattle.propagate.specs.Passes.{Pass, PairClosed, AllClosed, Propagated};
 use split_laws::Change;
 
@@ -27,7 +27,7 @@ fn flags_at(scratch: &[u32], at: usize) -> [u32; 4]
 
 // What pair k forces is followed in the marks.
 fn step(words: &[u32], n: usize, k: usize, scratch: &mut [u32]) -> Change
-    requires { ⌜ Ready (now words) n (now scratch) × (k < pairCount (now words)) ⌝ }
+    requires { ⌜ Lent (now words) n (now scratch) × (k < pairCount (now words)) ⌝ }
     ensures { λ o. ⌜ Pass (now (words .entry)) n (PairClosed (now (words .entry)) k) (now (scratch .entry)) (now (scratch .exit)) o ⌝ }
 {
     let pair = delay_list::pair_at(words, k);
@@ -37,7 +37,7 @@ fn step(words: &[u32], n: usize, k: usize, scratch: &mut [u32]) -> Change
 
 // One pass over all pairs.
 fn sweep(words: &[u32], n: usize, m: usize, down: bool, scratch: &mut [u32]) -> Change
-    requires { ⌜ Ready (now words) n (now scratch) × (m ≡ pairCount (now words)) ⌝ }
+    requires { ⌜ Lent (now words) n (now scratch) × (m ≡ pairCount (now words)) ⌝ }
     ensures { λ o. ⌜ Pass (now (words .entry)) n (AllClosed (now (words .entry))) (now (scratch .entry)) (now (scratch .exit)) o ⌝ }
 {
     let mut all = Change::Settled;
@@ -52,7 +52,7 @@ fn sweep(words: &[u32], n: usize, m: usize, down: bool, scratch: &mut [u32]) -> 
 
 // Passes up and down the list until nothing changes: true where no pair forces more, false where a register is forced both ways.
 fn propagate(words: &[u32], n: usize, m: usize, scratch: &mut [u32]) -> bool
-    requires { ⌜ Ready (now words) n (now scratch) × (m ≡ pairCount (now words)) ⌝ }
+    requires { ⌜ Lent (now words) n (now scratch) × (m ≡ pairCount (now words)) ⌝ }
     ensures { λ r. ⌜ Propagated (now (words .entry)) n (now (scratch .entry)) (now (scratch .exit)) r ⌝ }
 {
     let mut down = false;
@@ -82,7 +82,7 @@ fn record_broken(words: &[u32], period: u32, offset: u32, m: usize, flags: &mut 
 
 // Blank marks, and the broken choices of the pairs in the part of the scratch from place 6n on.
 fn prepare(words: &[u32], period: u32, offset: u32, n: usize, m: usize, scratch: &mut [u32])
-    requires { ⌜ Ready (now words) n (now scratch) × (m ≡ pairCount (now words)) ⌝ }
+    requires { ⌜ Lent (now words) n (now scratch) × (m ≡ pairCount (now words)) ⌝ }
     ensures { λ _. ⌜ Prepared period offset (now (words .entry)) n (now (scratch .entry)) (now (scratch .exit)) ⌝ }
 {
     buffers::clear(scratch, n);
@@ -99,7 +99,7 @@ pub fn decide(
     m: usize,
     scratch: &mut [u32],
 ) -> bool
-    requires { ⌜ Ready (now words) n (now scratch) × (m ≡ pairCount (now words)) ⌝ }
+    requires { ⌜ Lent (now words) n (now scratch) × (m ≡ pairCount (now words)) ⌝ }
     ensures { λ r. ⌜ Decided period offset (now (words .entry)) n (now (scratch .entry)) (now (scratch .exit)) r ⌝ }
 {
     prepare(words, period, offset, n, m, scratch);

@@ -1,13 +1,19 @@
 -- The numbers of a text, in the first places of a buffer.
-use Prim.Native.Nat.{ℕ, _≤_}
+use Prim.Native.Nat.{ℕ, _≤_, _<_}
 use mathlib.Core.Bool.{Bool}
-use mathlib.Core.List.{List}
-use mathlib.Core.Path.{_≡_, sym}
-use lib.ListN.{length, take}
+use mathlib.Core.List.{List, [], _∷_}
+use mathlib.Core.Path.{_≡_, refl, sym}
+use native.Mathlib.Omega.{arith}
+use lib.ListN.{length, getD, take}
+use Rattle.buffers.specs.Over.{over}
 use Rattle.buffers.proofs.FillLaws.{filled-front, filled-fits}
 use Rattle.scan.specs.declared.Scanned.{Scanned}
 use Rattle.scan.specs.declared.Scanned.the-variants.{Numbers}
 use Rattle.scan.specs.Scan.{storedOf, ScanAs}
+
+over-head : (xs was : List ℕ) → 0 < length xs → getD (over xs was) 0 0 ≡ getD xs 0 0
+over-head [] was h = absurd (omega arith)
+over-head (x ∷ xs) was h = refl
 
 module _ {lined : Bool} {text was now : List ℕ} {r : Scanned} (a : ScanAs lined text was now r) {count : ℕ} (e : r ≡ Numbers count) where
   pub stored-size : length (storedOf lined text) ≡ count
@@ -22,3 +28,10 @@ module _ {lined : Bool} {text was now : List ℕ} {r : Scanned} (a : ScanAs line
 
   pub stored-lent : count ≡ length (take count now)
   stored-lent = rw stored-front (sym stored-size)
+
+  pub stored-some : 0 < length (storedOf lined text)
+  stored-some = omega (arith, stored-size, a .counted count e .some)
+
+  -- the first of them
+  pub stored-first : getD now 0 0 ≡ getD (storedOf lined text) 0 0
+  stored-first = rw (a .stored) (over-head (storedOf lined text) was stored-some)

@@ -56,7 +56,7 @@ module _ (ws : List ℕ) (period offset : ℕ) (answer scratch : List ℕ) where
         let k : scratchPlaces (registers ws) (pairCount ws) ≤ length scratch = ltb-false _ _ (p .1 .1 .1 .1 .0) in
         record {
           none = pass-both (listChecks ws) call (a .none) (sym fault-is ∙ g);
-          ready = record { accepted = none→accepted ws (a .none); registersAre = a .registersAre; room = omega (arith, a .registersAre) };
+          lent = record { accepted = none→accepted ws (a .none); registersAre = a .registersAre; room = omega (arith, a .registersAre) };
           pairsAre = a .pairsAre;
           room = omega (arith, a .registersAre);
         }
@@ -66,14 +66,14 @@ module _ (ws : List ℕ) (period offset : ℕ) (answer scratch : List ℕ) where
     -- what the trial decided, and the scratch cleared after it
     module _ (S S′ : List ℕ) {r : Bool} (d : Decided period offset ws n scratch S r) (cleared : S′ ≡ replicate (scratchPlaces n m) 0 ++ drop (scratchPlaces n m) S) where
       zeros : S′ ≡ over (replicate (scratchPlaces (registers ws) (pairCount ws)) 0) scratch
-      zeros = cleared ∙ rw (length-replicate, a .pairsAre, d .rest, a .ready .registersAre)
+      zeros = cleared ∙ rw (length-replicate, a .pairsAre, d .rest, a .lent .registersAre)
 
       outcome : (b : Bool) → r ≡ b → splitting ws period offset (length answer) (length scratch) ≡ shown offset (chosen b (splitOf (take n S)))
       unfolding splitting
       outcome b e =
           answered-done (splitChecks ws period offset (length answer) (length scratch)) _ (a .none)
           ∙ ap (shown offset)
-          (ap (λ (k : ℕ). firstSplit k period offset (pairs ws)) (sym (a .ready .registersAre)) ∙ d .first ∙ ap (λ (x : Bool). chosen x (splitOf (take n S))) e)
+          (ap (λ (k : ℕ). firstSplit k period offset (pairs ws)) (sym (a .lent .registersAre)) ∙ d .first ∙ ap (λ (x : Bool). chosen x (splitOf (take n S))) e)
 
       pub none-shown : r ≡ false → SplitAs ws period offset answer answer scratch S′ NoSplit
       unfolding shown replyOf bufferAfter scratchAfter splitReply

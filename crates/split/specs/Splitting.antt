@@ -10,7 +10,7 @@ use Rattle.refusals.specs.declared.Fault.the-variants.{None}
 use Rattle.refusals.specs.Reply.{Reply, refusal, numbers, Outcome, refused, done, replyOf, bufferAfter, scratchAfter, answered}
 use Rattle.list_format.specs.Lists.{registers, pairCount, pairs, listChecks}
 use Rattle.split_laws.specs.Split.{Found, nothing, found, timings, firstSplit}
-use Rattle.propagate.specs.Store.{Ready}
+use Rattle.propagate.specs.Store.{Lent}
 use Rattle.split.specs.declared.Splitting.{Splitting}
 use Rattle.split.specs.declared.Splitting.the-variants.{Split, NoSplit, Refused}
 
@@ -53,6 +53,6 @@ pub record SplitAs (ws : List ℕ) (period offset : ℕ) (answer answer′ scrat
 -- a call that no refusal fits, of a list with n registers and m pairs
 pub record Allowed (ws : List ℕ) (period offset n m : ℕ) (answer scratch : List ℕ) : Type 0 where
   pub none : firstFault (splitChecks ws period offset (length answer) (length scratch)) ≡ None
-  pub ready : Ready ws n scratch
+  pub lent : Lent ws n scratch
   pub pairsAre : m ≡ pairCount ws
   pub room : n ≤ length answer

@@ -11,8 +11,9 @@ use lib.Seq.{getD-set-same, getD-set-other}
 use Rattle.split_laws.specs.declared.Row.{Row}
 use Rattle.split_laws.specs.declared.Change.{Change}
 use Rattle.split_laws.specs.declared.Change.the-variants.{Settled, Changed, Clash}
-use Rattle.split_laws.specs.Table.{mark, late, rowLaunch, rowCapture, RowIs}
+use Rattle.split_laws.specs.Table.{mark, late, rowLaunch, rowCapture}
 use Rattle.split_laws.specs.Marks.{choice, Agrees, isZero, unset, Kept, Told, Step, joined, Forced, Followed, Avoids, Applied, Seeded}
+use Rattle.split_laws.proofs.TableLaws.{RowIs}
 
 mark-range : (b : Bool) → (1 ≤ mark b) × (mark b ≤ 2)
 mark-range false = omega arith

@@ -1,31 +1,37 @@
 -- The table's rule, proved once over all of its rows, and what it says of a broken choice.
 use mathlib.Core.Path.{_≡_, refl}
 use mathlib.Core.Bool.{Bool, true, false, not}
-use Prim.Native.Nat.{ℕ, _-_, _<_}
+use Prim.Native.Nat.{ℕ, _+_, _-_, _<_}
 use native.Mathlib.Omega.{arith}
-use lib.ListN.{getD}
 use borrow.Author.Count.{below-none, below-more}
 use Rattle.timing.specs.declared.Pair.{Pair}
 use Rattle.timing.specs.Rules.{pairMet}
 use Rattle.timing.proofs.RuleLaws.{test→met, met→test}
 use Rattle.split_laws.specs.declared.Row.{Row}
 use Rattle.split_laws.specs.Split.{timing, meets}
-use Rattle.split_laws.specs.Table.{isLate, row, table, rowLaunch, rowCapture, RowIs, brokenRow, flag, flagAt}
+use Rattle.split_laws.specs.Table.{isLate, row, table, rowAt, rowLaunch, rowCapture, brokenRow, flag, flagAt}
+
+-- the rule of row k: each end forces the opposite of the other end's choice
+pub record RowIs (k : ℕ) (r : Row) : Type 0 where
+  pub launch-is : r .launch ≡ rowLaunch k
+  pub capture-is : r .capture ≡ rowCapture k
+  pub forced-capture : r .«forced_capture» + rowCapture k ≡ 3
+  pub forced-launch : r .«forced_launch» + rowLaunch k ≡ 3
 
 -- row k as the rule has it
 abbrev rowOf : ℕ → Row
 rowOf k = row (rowLaunch k) (rowCapture k) (3 - rowCapture k) (3 - rowLaunch k)
 
 abbrev Right : ℕ → Type 0
-Right k = getD table k (row 0 0 0 0) ≡ rowOf k
+Right k = rowAt k ≡ rowOf k
 
 right : (k : ℕ) → k < 4 → Right k
 unfolding table
 right = below-more Right 3 (below-more Right 2 (below-more Right 1 (below-more Right 0 (below-none Right) refl) refl) refl) refl
 
 -- each row of the table is as the rule says
-pub table-rule : (k : ℕ) → k < 4 → RowIs k (getD table k (row 0 0 0 0))
-table-rule k h = rw (right k h) (record { launch-is = refl; capture-is = refl; forced-capture = omega arith; forced-launch = omega arith })
+pub row-rule : (k : ℕ) → k < 4 → {r : Row} → r ≡ rowAt k → RowIs k r
+row-rule k h e = rw (e, right k h) (record { launch-is = refl; capture-is = refl; forced-capture = omega arith; forced-launch = omega arith })
 
 -- ---- broken choices of a pair
 

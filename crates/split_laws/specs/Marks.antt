@@ -1,6 +1,6 @@
 -- Marks: what is known of each register's choice, and what a step that follows broken choices promises.
 -- The promise speaks of all splits with a property P, such as to work: each that agreed with the marks still does,
--- and a clash says that there is none.
+-- and a clash says that no such split agrees with the marks.
 use mathlib.Core.Path.{_≡_}
 use mathlib.Core.Bool.{Bool, true, false}
 use mathlib.Core.List.{List, [], _∷_, map}

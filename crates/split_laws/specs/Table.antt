@@ -1,9 +1,9 @@
 -- The table of four rows: for each choice of launch and capture, what each end forces on the other where that choice breaks a rule.
 use mathlib.Core.List.{List, [], _∷_}
-use mathlib.Core.Path.{_≡_}
 use mathlib.Core.Bool.{Bool, true, false}
 use Prim.Native.Nat.{ℕ, _+_, _/_, _%_}
 use lib.Dec.{eqb}
+use lib.ListN.{getD}
 use Rattle.timing.specs.declared.Pair.{Pair}
 use Rattle.split_laws.specs.declared.Row.{Row}
 use Rattle.split_laws.specs.Split.{broken}
@@ -34,19 +34,15 @@ table =
     ∷ row late late early early
     ∷ []
 
+abbrev pub rowAt : ℕ → Row
+rowAt k = getD table k (row 0 0 0 0)
+
 -- the choices of row k
 abbrev pub rowLaunch : ℕ → ℕ
 rowLaunch k = 1 + k / 2
 
 abbrev pub rowCapture : ℕ → ℕ
 rowCapture k = 1 + k % 2
-
--- the rule of row k: each end forces the opposite of the other end's choice
-pub record RowIs (k : ℕ) (r : Row) : Type 0 where
-  pub launch-is : r .launch ≡ rowLaunch k
-  pub capture-is : r .capture ≡ rowCapture k
-  pub forced-capture : r .«forced_capture» + rowCapture k ≡ 3
-  pub forced-launch : r .«forced_launch» + rowLaunch k ≡ 3
 
 -- the choice of row k breaks a rule of the pair, at period t and offset s
 abbrev pub brokenRow : ℕ → ℕ → Pair → ℕ → Bool

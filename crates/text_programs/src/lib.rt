@@ -1,16 +1,24 @@
-// The programs between delay lists and texts. Each reads from a descriptor and prints to standard output.
+// The programs between delay lists and texts. Each reads from a descriptor and writes to standard output.
 use arguments::Argument;
 use libc::STDOUT_FILENO;
 use list_bytes::MAX_BYTES;
+use list_text::Made;
 use scan::TEXT_BYTES;
 
-// A text becomes the bytes of its delay list, or one line that says what is wrong.
-pub fn make_list(input: i32) {
+// A text becomes the bytes of its delay list, on standard output. Of a text that makes no list, one line that says what is wrong goes
+// to `errors`, and nothing to standard output.
+pub fn make_list(input: i32, errors: i32) {
     let mut text = [0u8; TEXT_BYTES + 1];
     let got = io::read_full(input, &mut text);
     let mut out = [0u8; MAX_BYTES];
-    let count = list_text::make(&text[..got], &mut out);
-    io::write_all(STDOUT_FILENO, &out[..count]);
+    match list_text::make(&text[..got], &mut out) {
+        Made::Bytes(count) => {
+            io::write_all(STDOUT_FILENO, &out[..count]);
+        }
+        Made::Fault(count) => {
+            io::write_all(errors, &out[..count]);
+        }
+    }
 }
 
 // The bytes of a delay list become its text.

@@ -1,6 +1,6 @@
 // Plans of the largest size: 512 registers and 2,048 pairs.
-use crate::search::list;
 use planner::Planning;
+use trial_kit::lists::list;
 use trial_kit::random;
 use trial_kit::show;
 

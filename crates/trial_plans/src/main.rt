@@ -1,5 +1,5 @@
-// Runs the full plan on random small lists against a plain search over all splits and all offsets, in halves too, and on
-// lists of the largest size. What it prints is held to the file `stdout`.
+// Runs the full plan on random small lists against a plain search over all splits and the offsets up to ten, in halves, and
+// on lists of the largest size. What it prints is held to the file `stdout`.
 mod large;
 mod search;
 

@@ -1,7 +1,7 @@
-// Random small lists: no split with any offset, counted in halves, beats the plan, and each place of the buffers is right.
+// Random small lists: no split with an offset up to ten, in halves, beats the plan, and each place of the buffers is right.
 use free_schedule::FreeAnswer;
-use list_format::Writing;
 use planner::Planning;
+use trial_kit::lists::list;
 use trial_kit::places::DIRT;
 use trial_kit::places::front;
 use trial_kit::places::kept;
@@ -164,14 +164,6 @@ fn one(seed: u64) -> Turn {
     Turn {
         seed: random::next(next),
         fate: right(front(&words, count), &numbers, last as usize + 1, m),
-    }
-}
-
-// The words of a list, stored in the first places; the answer is their count, 0 if the writer refuses.
-pub fn list(n: u32, numbers: &[u32], words: &mut [u32]) -> usize {
-    match write_list::write(n, numbers, words) {
-        Writing::Written(count) => count,
-        Writing::Refused(_, _) => 0,
     }
 }
 

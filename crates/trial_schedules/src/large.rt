@@ -1,6 +1,6 @@
 // Chains and rings of 512 registers, along the list and against it.
-use crate::examples::list;
 use crate::examples::show_free;
+use trial_kit::lists::list;
 use trial_kit::places::front;
 use trial_kit::random;
 use trial_kit::show;

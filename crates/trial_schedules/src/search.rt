@@ -1,9 +1,9 @@
 // Random small lists: the free schedule and the check of a schedule against the plain search.
-use crate::examples::list;
 use crate::plain;
 use checker::Checking;
 use checker::Rule;
 use free_schedule::FreeAnswer;
+use trial_kit::lists::list;
 use trial_kit::places::front;
 use trial_kit::random;
 use trial_kit::rules;

@@ -1,6 +1,6 @@
 // Chains of 512 registers, along the list and against it: one late register makes all after it late.
-use crate::examples::list;
 use crate::examples::show_split;
+use trial_kit::lists::list;
 use trial_kit::random;
 use trial_kit::show;
 ghost use Prim.Native.Nat.{_<_, _≤_};

@@ -1,6 +1,6 @@
 // Random small lists at every period and offset up to fifteen, against a plain search over all splits.
-use crate::examples::list;
 use split::Splitting;
+use trial_kit::lists::list;
 use trial_kit::places::DIRT;
 use trial_kit::places::front;
 use trial_kit::places::kept;

@@ -6,7 +6,7 @@ use Rattle.checker.proofs.call_fault.Tie as tie
 
 returns : tie.Need-returns
 unfolding faultAfter
-returns c = rw (c .or4 .ensures, c .before .late .ensures, c .before .before .or3 .ensures, c .before .before .before .or2 .ensures, c .before .before .before .before .or .ensures)
+returns c = rw (c .or4 .ensures, c .before .above-limit .ensures, c .before .before .or3 .ensures, c .before .before .before .or2 .ensures, c .before .before .before .before .or .ensures)
 
 pub call-fault-spec : {M : Type 1} → statement M
 call-fault-spec =

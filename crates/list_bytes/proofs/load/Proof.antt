@@ -14,7 +14,7 @@ returns-2 c = load-none _ _ (list-odd _ (c .before .if1 .left) (c .if2 .taken))
 returns-3 : tie.Need-returns-3
 returns-3 c =
     let made = c .to-words in
-    load-done _ _ (made .last .1 .1 .0) (c .before .before .before .if1 .left) (c .before .before .if2 .left) (omega (arith, made .kept .1 .1 .0)) (made .ensures)
+    load-done _ _ (made .last .1 .1 .0) (c .before .before .before .if1 .left) (c .before .before .if2 .left) (made .ensures)
 
 pub load-spec : {M : Type 1} → statement M
 load-spec = tie.close (tie.spec returns returns-2 (λ c κs. search needs) returns-3)

@@ -1,6 +1,6 @@
 -- `broken_flag`: the pair's rules at the times of the row's choices.
 use mathlib.Core.Path.{sym, _∙_}
-use Rattle.split_laws.proofs.TableLaws.{flag-is}
+use Rattle.split_laws.proofs.TableLaws.{row-rule, flag-is}
 use borrow.Author.Needs.{needs}
 use Rattle.marks.proofs.broken_flag.Statement.{statement}
 use Rattle.marks.proofs.broken_flag.Tie as tie
@@ -10,7 +10,7 @@ returns c =
     let w = c .before in
     let r = w .before .before .before in
     let a = r .before .args in
-    flag-is (a .period) (a .offset) (a .pair) (a .k) (r .row-at .ensures) (w .before .before .time-of .ensures) (w .before .time-of2 .ensures)
+    flag-is (a .period) (a .offset) (a .pair) (a .k) (row-rule (a .k) (r .before .pre) (r .row-at .ensures)) (w .before .before .time-of .ensures) (w .before .time-of2 .ensures)
     (sym (w .meets .ensures) ∙ c .if1 .taken)
 
 returns-2 : tie.Need-returns-2
@@ -18,7 +18,7 @@ returns-2 c =
     let w = c .before in
     let r = w .before .before .before in
     let a = r .before .args in
-    flag-is (a .period) (a .offset) (a .pair) (a .k) (r .row-at .ensures) (w .before .before .time-of .ensures) (w .before .time-of2 .ensures)
+    flag-is (a .period) (a .offset) (a .pair) (a .k) (row-rule (a .k) (r .before .pre) (r .row-at .ensures)) (w .before .before .time-of .ensures) (w .before .time-of2 .ensures)
     (sym (w .meets .ensures) ∙ c .if1 .left)
 
 pub broken-flag-spec : {M : Type 1} → statement M

@@ -1,13 +1,13 @@
--- `row_at`: the constant is the table, whose rule is proved over all rows.
+-- `row_at`: the constant is the table.
+use mathlib.Core.Path.{refl}
 use Rattle.split_laws.specs.Table.{table}
-use Rattle.split_laws.proofs.TableLaws.{table-rule}
 use borrow.Author.Needs.{needs}
 use Rattle.marks.proofs.row_at.Statement.{statement}
 use Rattle.marks.proofs.row_at.Tie as tie
 
 returns : tie.Need-returns
 unfolding table
-returns c = table-rule (c .before .args .k) (c .before .pre)
+returns c = refl
 
 pub row-at-spec : {M : Type 1} → statement M
 row-at-spec = tie.close (tie.spec (λ c. search needs) (λ c. search needs) returns)

@@ -10,13 +10,13 @@ returns : tie.Need-returns
 unfolding freeReply
 returns c =
     let job = c .before .before .before .before .before .before .before .free .ensures in
-    (told-refused freeReply (c .before .before .before .number .given .1) (job .reply) refl (c .refuse .ensures), job .buffer)
+    (told-refused freeReply (c .before .before .before .number .given .1) (job .reply) refl (c .refuse .ensures), job .stored)
 
 returns-2 : tie.Need-returns-2
 unfolding freeReply
 returns-2 c =
     let job = c .before .before .before .before .before .before .before .free .ensures in
-    (told-numbers freeReply (c .before .before .before .common .given .1) (job .reply) refl (c .tell .ensures), job .buffer)
+    (told-numbers freeReply (c .before .before .before .common .given .1) (job .reply) refl (c .tell .ensures), job .stored)
 
 pub darnerflax-free-spec : {M : Type 1} → statement M
 darnerflax-free-spec =

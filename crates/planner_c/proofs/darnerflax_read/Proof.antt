@@ -10,13 +10,13 @@ returns : tie.Need-returns
 unfolding readReply
 returns c =
     let job = c .before .before .before .before .before .before .before .read .ensures in
-    (told-refused readReply (c .before .before .before .number .given .1) (job .reply) refl (c .refuse .ensures), job .buffer)
+    (told-refused readReply (c .before .before .before .number .given .1) (job .reply) refl (c .refuse .ensures), job .stored)
 
 returns-2 : tie.Need-returns-2
 unfolding readReply
 returns-2 c =
     let job = c .before .before .before .before .before .before .before .read .ensures in
-    (told-numbers readReply (c .before .before .before .n .given .1) (job .reply) refl (c .tell .ensures), job .buffer)
+    (told-numbers readReply (c .before .before .before .n .given .1) (job .reply) refl (c .tell .ensures), job .stored)
 
 pub darnerflax-read-spec : {M : Type 1} → statement M
 darnerflax-read-spec =

@@ -10,13 +10,13 @@ returns : tie.Need-returns
 unfolding writeReply
 returns c =
     let job = c .before .before .before .before .before .before .before .write .ensures in
-    (told-refused writeReply (c .before .before .before .number .given .1) (job .reply) refl (c .refuse .ensures), job .buffer)
+    (told-refused writeReply (c .before .before .before .number .given .1) (job .reply) refl (c .refuse .ensures), job .stored)
 
 returns-2 : tie.Need-returns-2
 unfolding writeReply
 returns-2 c =
     let job = c .before .before .before .before .before .before .before .write .ensures in
-    (told-numbers writeReply (c .before .before .before .count .given .1) (job .reply) refl (c .tell .ensures), job .buffer)
+    (told-numbers writeReply (c .before .before .before .count .given .1) (job .reply) refl (c .tell .ensures), job .stored)
 
 pub darnerflax-write-spec : {M : Type 1} → statement M
 darnerflax-write-spec =

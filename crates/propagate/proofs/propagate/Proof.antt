@@ -3,7 +3,7 @@ use denote.Ref.{now}
 use lib.ListN.{take}
 use Rattle.split_laws.specs.Marks.{unset}
 use Rattle.propagate.specs.Passes.{Carried}
-use Rattle.propagate.proofs.StoreLaws.{ready-kept}
+use Rattle.propagate.proofs.StoreLaws.{lent-kept}
 use Rattle.propagate.proofs.PassLaws.{carried-start, carried-turn, carried-fewer, carried-clash, carried-settled}
 use borrow.Author.Needs.{needs}
 use Rattle.propagate.proofs.propagate.Statement.{statement}
@@ -23,7 +23,7 @@ loop-holds c =
 sweep-requires : tie.Need-sweep-requires Inv-loop μ-loop
 sweep-requires c κs =
     let b = c .before .before .before .before in
-    (ready-kept (b .pre .0) (c .before .loop .inv .size), b .pre .1)
+    (lent-kept (b .pre .0) (c .before .loop .inv .size), b .pre .1)
 
 returns : tie.Need-returns Inv-loop μ-loop
 returns c =

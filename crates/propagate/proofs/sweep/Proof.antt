@@ -5,7 +5,7 @@ use Prim.Native.Nat.{_≤_, _-_}
 use native.Mathlib.Omega.{arith}
 use Rattle.list_format.specs.Lists.{pairCount}
 use Rattle.propagate.specs.Passes.{Pass}
-use Rattle.propagate.proofs.StoreLaws.{ready-kept}
+use Rattle.propagate.proofs.StoreLaws.{lent-kept}
 use Rattle.propagate.proofs.PassLaws.{ClosedTo, sweep-start, sweep-turn, sweep-end}
 use borrow.Author.Needs.{needs}
 use Rattle.propagate.proofs.sweep.Statement.{statement}
@@ -26,7 +26,7 @@ step-requires : tie.Need-step-requires Inv-loop μ-loop
 step-requires c κs =
     let l = c .before .before .before in
     let b = l .before .before .before in
-    (ready-kept (b .pre .0) (l .loop .inv .1 .size), omega (arith, c .before .place .ensures .1, b .pre .1))
+    (lent-kept (b .pre .0) (l .loop .inv .1 .size), omega (arith, c .before .place .ensures .1, b .pre .1))
 
 loop-again : tie.Need-loop-again Inv-loop μ-loop
 loop-again c =

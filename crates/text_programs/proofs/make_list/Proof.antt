@@ -1,4 +1,7 @@
+-- The count that is returned can be lent, in either case.
+use mathlib.Core.Path.{ap}
 use Rattle.pieces.proofs.PutLaws.{put-lent, lent-size}
+use Rattle.list_text.proofs.ListTextLaws.{countOf, made-put}
 use borrow.Author.Needs.{needs}
 use Rattle.text_programs.proofs.make_list.Statement.{statement}
 use Rattle.text_programs.proofs.make_list.Tie as tie
@@ -12,7 +15,13 @@ make-list-spec =
     (λ c. search needs)
     (λ c. search needs)
     (λ c κs. search needs)
-    (λ c. put-lent (c .make .ensures))
-    (λ c. lent-size (c .before .make .ensures))
+    (λ c. search needs)
+    (λ c. put-lent (made-put (c .before .before .before .make .ensures) (ap countOf (c .before .count .given .1))))
+    (λ c. lent-size (made-put (c .before .before .before .before .make .ensures) (ap countOf (c .before .before .count .given .1))))
     (λ c κs. search needs)
+    (λ c. search needs)
+    (λ c. put-lent (made-put (c .before .before .before .make .ensures) (ap countOf (c .before .count2 .given .1))))
+    (λ c. lent-size (made-put (c .before .before .before .before .make .ensures) (ap countOf (c .before .before .count2 .given .1))))
+    (λ c κs. search needs)
+    (λ c. search needs)
     (λ c. search needs))

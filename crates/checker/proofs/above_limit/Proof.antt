@@ -1,10 +1,10 @@
--- `late` looks at each timing.
+-- `above_limit` looks at each timing.
 use Prim.Native.Nat.{_-_}
 use lib.ListN.{length}
 use Rattle.checker.proofs.CheckLaws.{Unseen, unseen-start, unseen-turn, unseen-stop, unseen-end}
 use borrow.Author.Needs.{needs}
-use Rattle.checker.proofs.late.Statement.{statement}
-use Rattle.checker.proofs.late.Tie as tie
+use Rattle.checker.proofs.above_limit.Statement.{statement}
+use Rattle.checker.proofs.above_limit.Tie as tie
 
 abbrev Inv-loop : tie.InvT-loop
 Inv-loop timings i₀ i = Unseen timings i
@@ -21,8 +21,8 @@ loop-again c = unseen-turn (c .before .before .before .loop .inv) (c .before .be
 returns-2 : tie.Need-returns-2 Inv-loop μ-loop
 returns-2 c = unseen-end (c .before .loop .inv) (c .loop-test .left)
 
-pub late-spec : {M : Type 1} → statement M
-late-spec =
+pub above-limit-spec : {M : Type 1} → statement M
+above-limit-spec =
     tie.close
     (tie.spec
     Inv-loop μ-loop (λ c. unseen-start) (λ c. search needs) (λ c. search needs) returns (λ c. search needs)
