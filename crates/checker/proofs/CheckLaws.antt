@@ -16,8 +16,7 @@ use Rattle.timing.specs.declared.Pair.{Pair}
 use Rattle.timing.specs.Rules.{setupMet, holdMet, time, admissible}
 use Rattle.timing.specs.Limits.{maxTiming}
 use Rattle.timing.proofs.RuleLaws.{test→met, met→test, admissible-sound, admissible-complete}
-use Rattle.search.specs.Search.{IsLeast}
-use Rattle.search.proofs.SearchLaws.{least-is, least-is-least}
+use Rattle.search.proofs.SearchLaws.{IsLeast, least-is, least-is-least}
 use Rattle.refusals.specs.Checks.{firstFault}
 use Rattle.refusals.proofs.CheckLaws.{passed, stop-first, pass-first}
 use Rattle.refusals.proofs.ReplyLaws.{answered-refused, answered-done}

@@ -11,7 +11,7 @@ use borrow.Author.Tests.{ltb-true, ltb-false, le-ltb}
 use Rattle.timing.specs.declared.Pair.{Pair}
 use Rattle.timing.specs.Rules.{time, Each}
 use Rattle.timing.proofs.RuleLaws.{test→met, met→test}
-use Rattle.search.specs.Search.{IsLeast}
+use Rattle.search.proofs.SearchLaws.{IsLeast}
 use Rattle.free_laws.proofs.Lists.{each-zip}
 use Rattle.free_laws.proofs.RuleList.{meets-longer, admissible→meets}
 use Rattle.free_laws.specs.Rule.{Bound}

@@ -7,11 +7,11 @@ use Rattle.search.specs.Search.{least}
 use Rattle.free_laws.specs.Free.{common}
 use Rattle.split_laws.specs.Split.{Found, nothing, found, timings, firstSplit}
 
--- some split of n registers works at period t and offset s
 abbrev pub isFound : Found → Bool
 isFound nothing = false
 isFound (found c) = true
 
+-- some split of n registers works at period t and offset s
 unfoldable pub splitWorks : ℕ → ℕ → ℕ → List Pair → Bool
 splitWorks n t s ps = isFound (firstSplit n t s ps)
 

@@ -7,7 +7,14 @@ use native.Mathlib.Nat.{le-refl, le-trans, eq-or-lt-of-le}
 use native.Mathlib.Omega.{arith}
 use lib.Dec.{ltb}
 use borrow.Author.Tests.{ltb-true, ltb-false}
-use Rattle.search.specs.Search.{firstFrom, least, IsLeast}
+use Rattle.search.specs.Search.{firstFrom, least}
+
+-- x is the first from low on that passes, or high
+pub record IsLeast (f : ℕ → Bool) (low high x : ℕ) : Type 0 where
+  pub from : low ≤ x
+  pub upto : x ≤ high
+  pub passes : x < high → f x ≡ true
+  pub before : (t : ℕ) → low ≤ t → t < x → f t ≡ false
 
 module _ (f : ℕ → Bool) where
   first-is-least : (k t : ℕ) → IsLeast f t (t + k) (firstFrom f t k)
