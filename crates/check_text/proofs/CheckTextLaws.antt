@@ -12,19 +12,19 @@ use Rattle.refusals.specs.Reply.{numbers, done, replyOf, told}
 use Rattle.refusals.proofs.ReplyLaws.{numbers-done, told-refusal, told-numbers}
 use Rattle.list_format.specs.Lists.{registers, pairCount, PairIn, IsPair}
 use Rattle.list_format.proofs.ListLaws.{none→accepted, list-pass, numbers-in}
-use Rattle.checker.specs.Check.{firstBroken, found, callChecks, checkChecks, checking, ruleNumber, checkReply, CheckedAs}
+use Rattle.checker.specs.Check.{firstBroken, found, timingChecks, checkChecks, checking, ruleNumber, checkReply, CheckedAs}
 use Rattle.checker.specs.declared.Rule.{Rule}
 use Rattle.checker.specs.declared.Checking.{Checking}
 use Rattle.checker.specs.declared.Checking.the-variants.{Admissible, Broken, Refused}
-use Rattle.pieces.specs.Pieces.{Put, letters, named, space}
-use Rattle.pieces.proofs.PutLaws.{put-within}
-use Rattle.plain_words.specs.PlainWords.{refusalLine, faultLine}
+use Rattle.text_pieces.specs.Pieces.{Put, letters, named, space}
+use Rattle.text_pieces.proofs.PutLaws.{put-within}
+use Rattle.refusal_text.specs.PlainWords.{refusalLine, faultLine}
 use Rattle.list_bytes.specs.ListBytes.{listOf}
 use Rattle.scan.specs.declared.Scanned.{Scanned}
 use Rattle.scan.specs.declared.Scanned.the-variants.{Numbers, Faulty}
 use Rattle.scan.specs.Scan.{ScanAs}
 use Rattle.scan.proofs.StoredLaws.{stored-front}
-use Rattle.check_text.specs.CheckText.{linePlaces, ruleWords, registersWords, brokenLine, foundLine, checkedLine, lineOf, checkText}
+use Rattle.check_text.specs.CheckText.{linePlaces, ruleWords, registersWords, brokenLine, foundLine, checkedLine, scannedLine, checkText}
 
 -- ---- the schedule
 
@@ -68,7 +68,7 @@ module _ {ws s : List ℕ} {t : ℕ} {r : Checking} (a : CheckedAs ws t s r) whe
         let is : checking ws t s ≡ done (found ws t s) [] = numbers-done (checkChecks ws t s) _ (broken-told ∙ a .reply) in
         let told : numbers (k ∷ ruleNumber rule ∷ []) ≡ numbers (found ws t s) = rw is at (broken-told ∙ a .reply) in
         record {
-          accepted = none→accepted ws (list-pass ws (numbers-in ws (callChecks (registers ws) t s) _ (broken-told ∙ a .reply)));
+          accepted = none→accepted ws (list-pass ws (numbers-in ws (timingChecks (registers ws) t s) _ (broken-told ∙ a .reply)));
           below = found-below ws s t {rule = ruleNumber rule} cc;
         }
 
@@ -91,7 +91,7 @@ pair-put rule {ws} {k} {p} {w} {next} {text} {text′} is put h =
 module _ {ts was now : List ℕ} {r : Scanned} (a : ScanAs false ts was now r) where
   pub text-faulty : (bs : List ℕ) (t : ℕ) {fault line next : ℕ} {text text′ : List ℕ} → r ≡ Faulty fault line → Put 133 (faultLine fault line) text 0 text′ next
       → Put linePlaces (checkText bs t ts) text 0 text′ next
-  unfolding lineOf
+  unfolding scannedLine
   text-faulty bs t {fault} {line} e put =
       let here : checkText bs t ts ≡ faultLine fault line = rw (← a .answer, e) in
       rw here put
@@ -99,7 +99,7 @@ module _ {ts was now : List ℕ} {r : Scanned} (a : ScanAs false ts was now r) w
   module _ {count : ℕ} (e : r ≡ Numbers count) where
     pub text-numbers : (bs : List ℕ) (t : ℕ) {next : ℕ} {text text′ : List ℕ} → Put linePlaces (checkedLine (listOf bs) t (take count now)) text 0 text′ next
         → Put linePlaces (checkText bs t ts) text 0 text′ next
-    unfolding lineOf
+    unfolding scannedLine
     text-numbers bs t put =
         let here : checkText bs t ts ≡ checkedLine (listOf bs) t (take count now) = rw (← a .answer, e, stored-front a e) in
         rw here put

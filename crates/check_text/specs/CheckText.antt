@@ -7,8 +7,8 @@ use lib.ListN.{getD}
 use Rattle.refusals.specs.Reply.{told}
 use Rattle.list_format.specs.Lists.{pairAt}
 use Rattle.checker.specs.Check.{checking}
-use Rattle.pieces.specs.Pieces.{letters, named, space, newline}
-use Rattle.plain_words.specs.PlainWords.{refusalLine, faultLine}
+use Rattle.text_pieces.specs.Pieces.{letters, named, space, newline}
+use Rattle.refusal_text.specs.PlainWords.{refusalLine, faultLine}
 use Rattle.list_bytes.specs.ListBytes.{listOf}
 use Rattle.scan.specs.declared.Scanned.{Scanned}
 use Rattle.scan.specs.declared.Scanned.the-variants.{Numbers, Faulty}
@@ -41,10 +41,10 @@ checkedLine ws period xs = told refusalLine (λ returned stored. foundLine ws re
 
 -- from the numbers xs of the text of a schedule: a fault in the text comes first. Faults 3 and 4, of the lines of a list, do not occur:
 -- `no-line-fault` in scan's proofs
-unfoldable pub lineOf : List ℕ → ℕ → Scanned → List ℕ → List ℕ
-lineOf ws period (Faulty fault line) xs = faultLine fault line
-lineOf ws period (Numbers count) xs = checkedLine ws period xs
+unfoldable pub scannedLine : List ℕ → ℕ → Scanned → List ℕ → List ℕ
+scannedLine ws period (Faulty fault line) xs = faultLine fault line
+scannedLine ws period (Numbers count) xs = checkedLine ws period xs
 
 -- the line for the bytes bs of a list, a period, and the text ts of a schedule
 abbrev pub checkText : List ℕ → ℕ → List ℕ → List ℕ
-checkText bs period ts = lineOf (listOf bs) period (scanned false ts) (storedOf false ts)
+checkText bs period ts = scannedLine (listOf bs) period (scanned false ts) (storedOf false ts)

@@ -2,7 +2,7 @@
 // The contracts cite `specs/CheckText.antt`.
 ghost use Prim.Native.Nat.{_+_, _≤_};
 ghost use lib.ListN.{length};
-ghost use Rattle.pieces.specs.Pieces.{Put};
+ghost use Rattle.text_pieces.specs.Pieces.{Put};
 ghost use Rattle.list_format.specs.Lists.{PairIn};
 ghost use Rattle.list_bytes.specs.ListBytes.{listOf};
 ghost use Rattle.checker.specs.Check.{ruleNumber};
@@ -10,10 +10,10 @@ ghost use Rattle.check_text.specs.CheckText.{linePlaces, ruleWords, regi
 use checker::Checking;
 use checker::Rule;
 use list_bytes::MAX_WORDS;
-use pieces::put_bytes;
-use pieces::put_named;
 use scan::MAX_NUMBERS;
 use scan::Scanned;
+use text_pieces::put_bytes;
+use text_pieces::put_named;
 
 // Places enough for any line.
 pub const TEXT_PLACES: usize = 133;
@@ -54,7 +54,7 @@ fn put_checked(text: &mut [u8], words: &[u32], period: u32, timings: &[u32]) -> 
     ensures { λ r. ⌜ Put linePlaces (checkedLine (now (words .entry)) period (now (timings .entry))) (now (text .entry)) 0 (now (text .exit)) r ⌝ }
 {
     match checker::check(words, period, timings) {
-        Checking::Refused(number, place) => plain_words::put_refusal(text, number, place),
+        Checking::Refused(number, place) => refusal_text::put_refusal(text, number, place),
         Checking::Admissible => put_bytes(text, 0, b"admissible\n"),
         Checking::Broken(k, rule) => put_broken(text, words, k, rule),
     }
@@ -77,7 +77,7 @@ pub fn check_text(bytes: &[u8], period: u32, timings: &[u8], text: &mut [u8; TEX
 {
     let mut numbers = [0u32; MAX_NUMBERS];
     match scan::scan(timings, false, &mut numbers) {
-        Scanned::Faulty(fault, line) => plain_words::put_fault(text, fault, line),
+        Scanned::Faulty(fault, line) => refusal_text::put_fault(text, fault, line),
         Scanned::Numbers(count) => put_against(text, bytes, period, &numbers[..count]),
     }
 }

@@ -27,7 +27,7 @@ use Rattle.list_format.specs.Lists.{registers, pairCount, pairAt, pairs, listCh
 use Rattle.list_format.specs.declared.Verdict.the-variants as Verdict
 use Rattle.list_format.specs.declared.Verdict.the-variants.{Accepted}
 use Rattle.list_format.proofs.ListLaws.{refused→fault, accepted→none, none→accepted, same, each-pair, pair-holds}
-use Rattle.checker.specs.Check.{setupAt, holdAt, metAt, firstBroken, brokenRule, found, someAbove, callChecks, checkChecks, checking, ruleNumber, checkReply, CheckedAs, Ready}
+use Rattle.checker.specs.Check.{setupAt, holdAt, metAt, firstBroken, brokenRule, found, someAbove, timingChecks, checkChecks, checking, ruleNumber, checkReply, CheckedAs, Ready}
 use Rattle.checker.specs.declared.Rule.{Rule}
 use Rattle.checker.specs.declared.Rule.the-variants.{Setup, Hold}
 use Rattle.checker.specs.declared.Checking.{Checking}
@@ -167,14 +167,14 @@ module _ (ws : List ℕ) (t : ℕ) (s : List ℕ) where
   pub by-list : {number place : ℕ} → verdict ws ≡ Verdict.Refused number place → CheckedAs ws t s (Refused number place)
   unfolding checking
   by-list e =
-      let f = stop-first (listChecks ws) (callChecks (registers ws) t s) (refused→fault ws e) in
+      let f = stop-first (listChecks ws) (timingChecks (registers ws) t s) (refused→fault ws e) in
       refuses f (answered-refused (checkChecks ws t s) _ f)
 
-  module _ {n m : ℕ} (e : verdict ws ≡ Accepted n m) {f : Fault} (call : f ≡ firstFault (callChecks n t s)) where
+  module _ {n m : ℕ} (e : verdict ws ≡ Accepted n m) {f : Fault} (call : f ≡ firstFault (timingChecks n t s)) where
     call-decides : firstFault (checkChecks ws t s) ≡ f
     call-decides =
         let a = accepted→none ws e in
-        pass-first (listChecks ws) (callChecks (registers ws) t s) (a .none) ∙ rw (← a .registersAre) (sym call)
+        pass-first (listChecks ws) (timingChecks (registers ws) t s) (a .none) ∙ rw (← a .registersAre) (sym call)
 
     pub by-call : {number place : ℕ} → f ≡ At number place → CheckedAs ws t s (Refused number place)
     unfolding checking
@@ -183,7 +183,7 @@ module _ (ws : List ℕ) (t : ℕ) (s : List ℕ) where
     module _ (h : f ≡ None) where
       pub call-ready : Ready ws m s
       call-ready =
-          let c = passed (callChecks n t s) (sym call ∙ h) in
+          let c = passed (timingChecks n t s) (sym call ∙ h) in
           let a = accepted→none ws e in
           record { accepted = none→accepted ws (a .none); counted = a .pairsAre; timed = same _ _ (c .1 .1 .0) ∙ a .registersAre }
 

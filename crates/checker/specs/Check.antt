@@ -53,8 +53,8 @@ someAbove [] = false
 someAbove (x ∷ s) = ltb maxTiming x || someAbove s
 
 -- 3: the period or a timing out of range, or not a timing for each of n registers
-abbrev pub callChecks : ℕ → ℕ → List ℕ → List Check
-callChecks n t s =
+abbrev pub timingChecks : ℕ → ℕ → List ℕ → List Check
+timingChecks n t s =
     (eqb t 0, 3, 0)
     ∷ (ltb maxPeriod t, 3, 0)
     ∷ (differ (length s) n, 3, 0)
@@ -63,7 +63,7 @@ callChecks n t s =
 
 -- 11 to 17, then 3
 abbrev pub checkChecks : List ℕ → ℕ → List ℕ → List Check
-checkChecks ws t s = listChecks ws ++ callChecks (registers ws) t s
+checkChecks ws t s = listChecks ws ++ timingChecks (registers ws) t s
 
 -- what checking comes to; nothing is stored
 unfoldable pub checking : List ℕ → ℕ → List ℕ → Outcome

@@ -6,7 +6,7 @@ ghost use Rattle.timing.specs.Rules.{admissible};
 ghost use Rattle.refusals.specs.Checks.{firstFault};
 ghost use Rattle.refusals.specs.Reply.{numbers};
 ghost use Rattle.list_format.specs.Lists.{registers, pairs, PairIn};
-ghost use Rattle.checker.specs.Check.{metAt, firstBroken, brokenRule, found, someAbove, callChecks, ruleNumber, checkReply, CheckedAs, Ready};
+ghost use Rattle.checker.specs.Check.{metAt, firstBroken, brokenRule, found, someAbove, timingChecks, ruleNumber, checkReply, CheckedAs, Ready};
 use list_format::Verdict;
 use refusals::Fault;
 
@@ -101,7 +101,7 @@ fn above_limit(timings: &[u32]) -> bool
 
 // 3: what is wrong with the call, for a list of n registers.
 fn call_fault(n: usize, period: u32, timings: &[u32]) -> Fault
-    ensures { λ r. ⌜ r ≡ firstFault (callChecks n period (now (timings .entry))) ⌝ }
+    ensures { λ r. ⌜ r ≡ firstFault (timingChecks n period (now (timings .entry))) ⌝ }
 {
     Fault::None
         .or(period == 0, 3, 0)

@@ -8,6 +8,6 @@ use Rattle.split_laws.specs.Split.{works, splits, firstOf, firstSplit}
 use Rattle.plan_laws.specs.Plan.{splitWorks, twoWorks, twoPeriod, twoOffset, twoSplit, twoTimings}
 use Rattle.examples.specs.Examples.{computed, table}
 
-pub shown : map computed table ≡ table
+pub examples-shown : map computed table ≡ table
 unfolding computed table admissible firstFrom least relax round rounds freeAt freeWorks common freePeriod freeSchedule works splits firstOf firstSplit splitWorks twoWorks twoPeriod twoOffset twoSplit twoTimings
-shown = refl
+examples-shown = refl

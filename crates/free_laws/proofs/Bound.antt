@@ -9,7 +9,7 @@ use Rattle.timing.specs.declared.Pair.{Pair}
 use Rattle.timing.specs.Rules.{time, Each, InRange}
 use Rattle.buffers.specs.Over.{zeros}
 use Rattle.free_laws.specs.Free.{freeAt, common, freePeriod, freeSchedule}
-use Rattle.free_laws.specs.Rule.{Meets, rules, Least, Bound}
+use Rattle.free_laws.specs.Constraint.{Meets, constraints, Least, Bound}
 use Rattle.free_laws.proofs.Least.{least-unique}
 use Rattle.free_laws.proofs.FreeLaws.{free-is-least, works→meets, meets→works, common-pos, common-meets, period-works, period-least, period-pos}
 
@@ -28,15 +28,15 @@ pub bound-free : (n : ℕ) (ps : List Pair) → Each (InRange n) ps → Bound ps
 bound-free n ps w = record { under = λ u f p m. period-least n ps w u p (meets→works n u ps w f m) }
 
 -- where there is no schedule at the bound itself, one more is a bound
-pub bound-next : {ps : List Pair} {b : ℕ} → Bound ps b → ((f : ℕ → ℕ) → Each (Meets f) (rules b ps) → ⊥) → Bound ps (b + 1)
+pub bound-next : {ps : List Pair} {b : ℕ} → Bound ps b → ((f : ℕ → ℕ) → Each (Meets f) (constraints b ps) → ⊥) → Bound ps (b + 1)
 bound-next {ps} {b} h none = record { under = λ u f p m. go u f m (eq-or-lt-of-le (h .under u f p m)) }
   where
-    go : (u : ℕ) (f : ℕ → ℕ) → Each (Meets f) (rules u ps) → (b ≡ u) ⊎ (b < u) → b + 1 ≤ u
+    go : (u : ℕ) (f : ℕ → ℕ) → Each (Meets f) (constraints u ps) → (b ≡ u) ⊎ (b < u) → b + 1 ≤ u
     go u f m (inl e) = absurd (none f (rw (sym e) at m))
     go u f m (inr l) = omega arith
 
 -- a bound at which there is a least schedule is the free period
-module _ (n : ℕ) (ps : List Pair) (w : Each (InRange n) ps) {t : ℕ} {x : List ℕ} (h : 1 ≤ t) (b : Bound ps t) (least : Least (rules t ps) n x) where
+module _ (n : ℕ) (ps : List Pair) (w : Each (InRange n) ps) {t : ℕ} {x : List ℕ} (h : 1 ≤ t) (b : Bound ps t) (least : Least (constraints t ps) n x) where
   pub bound-period : t ≡ freePeriod n ps
   bound-period =
       omega (

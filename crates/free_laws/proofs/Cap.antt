@@ -8,21 +8,21 @@ use lib.ListN.{length, set}
 use lib.Seq.{set-getD}
 use Rattle.timing.specs.declared.Pair.{Pair}
 use Rattle.timing.specs.Rules.{time, Each, InRange}
-use Rattle.free_laws.specs.Rule.{Rule, Meets, setup, hold, Below}
-use Rattle.free_laws.specs.Raise.{ask, Reach, Round, Capped, raiseTo, relaxTo}
-use Rattle.free_laws.proofs.Sweep.{set-below, reach-more, Obeyed, obeyed}
+use Rattle.free_laws.specs.Constraint.{Constraint, Meets, setup, hold, Below}
+use Rattle.free_laws.specs.Raise.{ask, Attained, Round, Capped, raiseTo, relaxTo}
+use Rattle.free_laws.proofs.Sweep.{set-below, attained-more, Obeyed, obeyed}
 
 pub raise-capped : (c r v : ℕ) (x : List ℕ) → Capped c x → Capped c (raiseTo c r v x)
 raise-capped c r v x h j = set-below x r (min c (max (time x r) v)) j (λ q. c) (h j) (omega arith)
 
 -- raised, or left where it is
-module _ (c r v slack : ℕ) (x : List ℕ) where
-  pub raise-more : {w : ℕ} → time x r + slack < v → w ≡ min c (v - slack) → set x r w ≡ raiseTo c r (v - slack) x
+module _ (c r v allowance : ℕ) (x : List ℕ) where
+  pub raise-more : {w : ℕ} → time x r + allowance < v → w ≡ min c (v - allowance) → set x r w ≡ raiseTo c r (v - allowance) x
   raise-more h e = ap (set x r) (omega arith)
 
-  pub raise-none : v ≤ time x r + slack → Capped c x → x ≡ raiseTo c r (v - slack) x
+  pub raise-none : v ≤ time x r + allowance → Capped c x → x ≡ raiseTo c r (v - allowance) x
   raise-none h k =
-      let same : time x r ≡ min c (max (time x r) (v - slack)) = omega (arith, k r) in
+      let same : time x r ≡ min c (max (time x r) (v - allowance)) = omega (arith, k r) in
       sym (set-getD x r 0) ∙ ap (set x r) same
 
 -- one raise after the other
@@ -37,12 +37,12 @@ pub record Relaxed (c t : ℕ) (p : Pair) (x y : List ℕ) : Type 0 where
   pub capped : Capped c y
   pub up : Below x (time y)
   pub low : (f : ℕ → ℕ) → Meets f (setup t p) → Meets f (hold p) → Below x f → Below y f
-  pub reach : Reach c x y (setup t p) × Reach c x y (hold p)
+  pub attained : Attained c x y (setup t p) × Attained c x y (hold p)
 
-abbrev obeyTo : ℕ → Rule → List ℕ → List ℕ
+abbrev obeyTo : ℕ → Constraint → List ℕ → List ℕ
 obeyTo c r x = raiseTo c (r .dst) (ask r x) x
 
-obey-to : (c : ℕ) (r : Rule) (x : List ℕ) → Capped c x → r .dst < length x → Obeyed c r x (obeyTo c r x)
+obey-to : (c : ℕ) (r : Constraint) (x : List ℕ) → Capped c x → r .dst < length x → Obeyed c r x (obeyTo c r x)
 obey-to c r x k h = obeyed c r x (min c (max (time x (r .dst)) (ask r x))) h (omega (arith, k (r .dst))) (omega arith) (omega arith)
 
 relax-obey : (c t : ℕ) (p : Pair) (x : List ℕ) → relaxTo c t p x ≡ obeyTo c (hold p) (obeyTo c (setup t p) x)
@@ -61,8 +61,8 @@ relaxed c t p x k h =
       capped = raise-capped c (p .launch) (ask (hold p) y) y capped;
       up = λ j. le-trans (a .up j) (b .up j);
       low = λ f m l below. b .low f l (a .low f m below);
-      reach = (
-        reach-more c x x y z (setup t p) (λ j. le-refl _) (b .up) (a .reach),
-        reach-more c x y z z (hold p) (a .up) (λ j. le-refl _) (b .reach),
+      attained = (
+        attained-more c x x y z (setup t p) (λ j. le-refl _) (b .up) (a .attained),
+        attained-more c x y z z (hold p) (a .up) (λ j. le-refl _) (b .attained),
       );
     })

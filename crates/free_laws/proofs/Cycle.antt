@@ -6,27 +6,27 @@ use native.Mathlib.Nat.{div-lt-iff-lt-mul}
 use native.Mathlib.Omega.{arith}
 use Rattle.timing.specs.declared.Pair.{Pair}
 use Rattle.timing.specs.Rules.{Each}
-use Rattle.free_laws.specs.Rule.{Meets, setup, hold, rules, Bound, Adds}
+use Rattle.free_laws.specs.Constraint.{Meets, setup, hold, constraints, Bound, Adds}
 
 pub adds-none : {ps : List Pair} {start : ℕ} → Adds ps start start 0 0 0
 adds-none = record { sums = λ u f m. omega arith }
 
 -- both rules of p are among the rules of ps
 abbrev pub Among : List Pair → Pair → Type 0
-Among ps p = (u : ℕ) (f : ℕ → ℕ) → Each (Meets f) (rules u ps) → Meets f (setup u p) × Meets f (hold p)
+Among ps p = (u : ℕ) (f : ℕ → ℕ) → Each (Meets f) (constraints u ps) → Meets f (setup u p) × Meets f (hold p)
 
-module _ {ps : List Pair} {start at gain slack setups : ℕ} (a : Adds ps start at gain slack setups) (p : Pair) (among : Among ps p) where
+module _ {ps : List Pair} {start at gain allowance setups : ℕ} (a : Adds ps start at gain allowance setups) (p : Pair) (among : Among ps p) where
   -- back along setup
-  pub adds-setup : p .capture ≡ at → Adds ps start (p .launch) (gain + p .greatest) slack (setups + 1)
+  pub adds-setup : p .capture ≡ at → Adds ps start (p .launch) (gain + p .greatest) allowance (setups + 1)
   adds-setup e = record { sums = λ u f m. omega (arith, a .sums u f m, among u f m .0, ap f e) }
 
   -- back along hold
-  pub adds-hold : p .launch ≡ at → Adds ps start (p .capture) gain (slack + p .least) setups
+  pub adds-hold : p .launch ≡ at → Adds ps start (p .capture) gain (allowance + p .least) setups
   adds-hold e = record { sums = λ u f m. omega (arith, a .sums u f m, among u f m .1, ap f e) }
 
 -- back at the start: no period is shorter than what the sums leave
-pub adds-closed : {ps : List Pair} {start at gain slack setups r : ℕ} → Adds ps start at gain slack setups
-    → ((u : ℕ) → (at ≡ start → gain ≤ slack + setups * u) → r ≤ u) → Bound ps r
+pub adds-closed : {ps : List Pair} {start at gain allowance setups r : ℕ} → Adds ps start at gain allowance setups
+    → ((u : ℕ) → (at ≡ start → gain ≤ allowance + setups * u) → r ≤ u) → Bound ps r
 adds-closed a told = record { under = λ u f p m. told u (λ e. omega (arith, a .sums u f m, ap f e)) }
 
 -- the least u with g ≤ s + k * u

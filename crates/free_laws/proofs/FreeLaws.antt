@@ -11,9 +11,9 @@ use Rattle.timing.specs.Rules.{time, Each, InRange}
 use Rattle.search.proofs.SearchLaws.{least-is-least, least-below, least-passes}
 use Rattle.buffers.specs.Over.{zeros}
 use Rattle.free_laws.specs.Free.{relax, round, rounds, freeAt, freeWorks, common, freePeriod}
-use Rattle.free_laws.specs.Rule.{Meets, setup, hold, rules, Least}
+use Rattle.free_laws.specs.Constraint.{Meets, setup, hold, constraints, Least}
 use Rattle.free_laws.specs.Raise.{Capped}
-use Rattle.free_laws.proofs.RuleList.{each-rule, within, admissible→meets, meets→admissible}
+use Rattle.free_laws.proofs.ConstraintList.{each-rule, within, admissible→meets, meets→admissible}
 use Rattle.free_laws.proofs.Sweep.{zeros-below, obey, sweep, sweeps}
 use Rattle.free_laws.proofs.Least.{after, after-size, least-exists, bounded}
 use Rattle.free_laws.proofs.Rounds.{settled}
@@ -24,17 +24,17 @@ relax-obey : (t : ℕ) (p : Pair) (x : List ℕ) → relax t p x ≡ obey (hold 
 unfolding relax
 relax-obey t p x = rw add-zero
 
-round-sweep : (t : ℕ) (ps : List Pair) (x : List ℕ) → round t ps x ≡ sweep (rules t ps) x
+round-sweep : (t : ℕ) (ps : List Pair) (x : List ℕ) → round t ps x ≡ sweep (constraints t ps) x
 unfolding round sweep
 round-sweep t [] x = refl
 round-sweep t (p ∷ ps) x = rw (relax-obey t p x) (round-sweep t ps (obey (hold p) (obey (setup t p) x)))
 
-rounds-sweeps : (k t : ℕ) (ps : List Pair) (x : List ℕ) → rounds k t ps x ≡ sweeps k (rules t ps) x
+rounds-sweeps : (k t : ℕ) (ps : List Pair) (x : List ℕ) → rounds k t ps x ≡ sweeps k (constraints t ps) x
 unfolding rounds sweeps
 rounds-sweeps zero t ps x = refl
-rounds-sweeps (suc k) t ps x = rw (rounds-sweeps k t ps x) (round-sweep t ps (sweeps k (rules t ps) x))
+rounds-sweeps (suc k) t ps x = rw (rounds-sweeps k t ps x) (round-sweep t ps (sweeps k (constraints t ps) x))
 
-free-after : (n t : ℕ) (ps : List Pair) → freeAt n t ps ≡ after (rules t ps) n n
+free-after : (n t : ℕ) (ps : List Pair) → freeAt n t ps ≡ after (constraints t ps) n n
 unfolding freeAt
 free-after n t ps = rounds-sweeps n t ps (zeros n)
 
@@ -42,27 +42,27 @@ free-after n t ps = rounds-sweeps n t ps (zeros n)
 
 module _ (n t : ℕ) (ps : List Pair) (w : Each (InRange n) ps) where
   pub length-free : length (freeAt n t ps) ≡ n
-  length-free = rw free-after (after-size (rules t ps) n (within n t ps w) n)
+  length-free = rw free-after (after-size (constraints t ps) n (within n t ps w) n)
 
-  module _ (f : ℕ → ℕ) (m : Each (Meets f) (rules t ps)) where
+  module _ (f : ℕ → ℕ) (m : Each (Meets f) (constraints t ps)) where
     -- n rounds find the least schedule
-    pub free-is-least : Least (rules t ps) n (freeAt n t ps)
+    pub free-is-least : Least (constraints t ps) n (freeAt n t ps)
     free-is-least =
-        let l = least-exists (rules t ps) n (within n t ps w) f m in
-        subst (Least (rules t ps) n) (sym (free-after n t ps ∙ settled n (rules t ps) (within n t ps w) n (omega arith) (l .0) (l .1))) (l .1)
+        let l = least-exists (constraints t ps) n (within n t ps w) f m in
+        subst (Least (constraints t ps) n) (sym (free-after n t ps ∙ settled n (constraints t ps) (within n t ps w) n (omega arith) (l .0) (l .1))) (l .1)
 
     pub meets→works : freeWorks n t ps ≡ true
     unfolding freeWorks
     meets→works = meets→admissible t ps (freeAt n t ps) (free-is-least .meets)
 
   -- no register is later than n - 1 of the largest steps
-  pub least-capped : {l : List ℕ} (c d : ℕ) → Each (λ p. p .greatest ≤ t + d) ps → (n - 1) * d ≤ c → Least (rules t ps) n l → Capped c l
+  pub least-capped : {l : List ℕ} (c d : ℕ) → Each (λ p. p .greatest ≤ t + d) ps → (n - 1) * d ≤ c → Least (constraints t ps) n l → Capped c l
   least-capped {l} c d steps room least r =
       le-trans
-      (bounded (rules t ps) n l (within n t ps w) least d (each-rule (λ r. r .gain ≤ r .slack + d) t (λ p h. (h, omega arith)) ps steps) r)
+      (bounded (constraints t ps) n l (within n t ps w) least d (each-rule (λ r. r .gain ≤ r .allowance + d) t (λ p h. (h, omega arith)) ps steps) r)
       room
 
-pub works→meets : (n t : ℕ) (ps : List Pair) → freeWorks n t ps ≡ true → Each (Meets (time (freeAt n t ps))) (rules t ps)
+pub works→meets : (n t : ℕ) (ps : List Pair) → freeWorks n t ps ≡ true → Each (Meets (time (freeAt n t ps))) (constraints t ps)
 unfolding freeWorks
 works→meets n t ps e = admissible→meets t ps (freeAt n t ps) e
 
@@ -78,7 +78,7 @@ unfolding common
 common-limit c h [] steps = h
 common-limit c h (p ∷ ps) steps = omega (arith, steps .0, common-limit c h ps (steps .1))
 
-zero-meets : (f : ℕ → ℕ) → ((r : ℕ) → f r ≤ 0) → (t : ℕ) (ps : List Pair) → common ps ≤ t → Each (Meets f) (rules t ps)
+zero-meets : (f : ℕ → ℕ) → ((r : ℕ) → f r ≤ 0) → (t : ℕ) (ps : List Pair) → common ps ≤ t → Each (Meets f) (constraints t ps)
 unfolding common
 zero-meets f z t [] h = tt
 zero-meets f z t (p ∷ ps) h =
@@ -87,7 +87,7 @@ zero-meets f z t (p ∷ ps) h =
     (omega arith, (omega arith, zero-meets f z t ps (omega arith)))
 
 -- all zero meets the rules there
-pub common-meets : (n : ℕ) (ps : List Pair) → Each (Meets (time (zeros n))) (rules (common ps) ps)
+pub common-meets : (n : ℕ) (ps : List Pair) → Each (Meets (time (zeros n))) (constraints (common ps) ps)
 common-meets n ps = zero-meets (time (zeros n)) (zeros-below n (λ r. 0)) (common ps) ps (le-refl _)
 
 -- ---- the free period

@@ -14,12 +14,12 @@ use borrow.Author.Tests.{leb-true, leb-false, le-leb, ltb-true, ltb-false}
 use Rattle.timing.specs.Rules.{time, Each}
 use Rattle.buffers.specs.Over.{zeros}
 use Rattle.free_laws.proofs.Lists.{Some, each-zip, pick-some, sift}
-use Rattle.free_laws.specs.Rule.{Rule, Meets, Within, Below, Least}
+use Rattle.free_laws.specs.Constraint.{Constraint, Meets, Within, Below, Least}
 use Rattle.free_laws.specs.Raise.{Round}
 use Rattle.free_laws.proofs.Sweep.{zeros-below, sweeps, sweep-round, still-meets}
 use Rattle.free_laws.proofs.Count.{bit, find, fills}
 
-pub least-unique : {rs : List Rule} {n : ℕ} {x l : List ℕ} → Least rs n x → Least rs n l → x ≡ l
+pub least-unique : {rs : List Constraint} {n : ℕ} {x l : List ℕ} → Least rs n x → Least rs n l → x ≡ l
 least-unique {rs} {n} {x} {l} a b =
     ext-getD 0 x l (a .size ∙ sym (b .size)) (λ r h. omega (arith, a .below (time l) (b .meets) r, b .below (time x) (a .meets) r))
 
@@ -59,10 +59,10 @@ same-total (a ∷ x) (c ∷ y) l b h =
 -- ---- rounds from all zero
 
 -- the schedule after k rounds
-abbrev pub after : List Rule → ℕ → ℕ → List ℕ
+abbrev pub after : List Constraint → ℕ → ℕ → List ℕ
 after rs n k = sweeps k rs (zeros n)
 
-module _ (rs : List Rule) (n : ℕ) (w : Each (Within n) rs) where
+module _ (rs : List Constraint) (n : ℕ) (w : Each (Within n) rs) where
   pub after-size : (k : ℕ) → length (after rs n k) ≡ n
   unfolding sweeps
   after-size zero = length-replicate n 0
@@ -107,21 +107,21 @@ module _ (rs : List Rule) (n : ℕ) (w : Each (Within n) rs) where
 
 -- ---- a tight rule leads out of any set that holds the registers at 0
 
-abbrev pub Crosses : List ℕ → (ℕ → Bool) → Rule → Type 0
-Crosses l g r = (g (r .src) ≡ true) × (g (r .dst) ≡ false) × (time l (r .src) + r .gain ≡ time l (r .dst) + r .slack)
+abbrev pub Crosses : List ℕ → (ℕ → Bool) → Constraint → Type 0
+Crosses l g r = (g (r .src) ≡ true) × (g (r .dst) ≡ false) × (time l (r .src) + r .gain ≡ time l (r .dst) + r .allowance)
 
 -- the registers outside the set, 1 earlier
 lowered : List ℕ → (ℕ → Bool) → ℕ → ℕ
 lowered l g r = time l r - (1 - bit (g r))
 
-module _ (rs : List Rule) (n : ℕ) (l : List ℕ) (w : Each (Within n) rs) (least : Least rs n l) where
+module _ (rs : List Constraint) (n : ℕ) (l : List ℕ) (w : Each (Within n) rs) (least : Least rs n l) where
   -- else the registers outside could all be 1 earlier
   module _ (g : ℕ → Bool) (pos : (r : ℕ) → r < n → g r ≡ false → 0 < time l r) where
-    crosses-or-meets : (r : Rule) → Within n r → Meets (time l) r → Crosses l g r ⊎ Meets (lowered l g) r
+    crosses-or-meets : (r : Constraint) → Within n r → Meets (time l) r → Crosses l g r ⊎ Meets (lowered l g) r
     unfolding lowered
-    crosses-or-meets r h m = go (g (r .src)) (g (r .dst)) (leb (time l (r .dst) + r .slack) (time l (r .src) + r .gain)) refl refl refl
+    crosses-or-meets r h m = go (g (r .src)) (g (r .dst)) (leb (time l (r .dst) + r .allowance) (time l (r .src) + r .gain)) refl refl refl
       where
-        go : (a b c : Bool) → g (r .src) ≡ a → g (r .dst) ≡ b → leb (time l (r .dst) + r .slack) (time l (r .src) + r .gain) ≡ c
+        go : (a b c : Bool) → g (r .src) ≡ a → g (r .dst) ≡ b → leb (time l (r .dst) + r .allowance) (time l (r .src) + r .gain) ≡ c
             → Crosses l g r ⊎ Meets (lowered l g) r
         go true true c ea eb ec = inr (omega (arith, ap bit ea, ap bit eb))
         go true false true ea eb ec = inl (ea, eb, omega (arith, leb-true))
@@ -141,7 +141,7 @@ module _ (rs : List Rule) (n : ℕ) (l : List ℕ) (w : Each (Within n) rs) (lea
   pub some-zero : 0 < n → (q : ℕ) × (q < n) × (time l q ≡ 0)
   some-zero h = go (find n (λ r. ltb 0 (time l r)))
     where
-      none : (r : Rule) → Within n r → Within n r → Crosses l (λ q. false) r → (q : ℕ) × (q < n) × (time l q ≡ 0)
+      none : (r : Constraint) → Within n r → Within n r → Crosses l (λ q. false) r → (q : ℕ) × (q < n) × (time l q ≡ 0)
       none r h k c = absurd (false≢true (c .0))
 
       go : ((q : ℕ) × (q < n) × (ltb 0 (time l q) ≡ false)) ⊎ ((r : ℕ) → r < n → ltb 0 (time l r) ≡ true) → (q : ℕ) × (q < n) × (time l q ≡ 0)
@@ -152,7 +152,7 @@ module _ (rs : List Rule) (n : ℕ) (l : List ℕ) (w : Each (Within n) rs) (lea
 
   -- ---- how late a register can be: the registers at k steps or fewer grow with k
 
-  module _ (c : ℕ) (steps : Each (λ r. r .gain ≤ r .slack + c) rs) where
+  module _ (c : ℕ) (steps : Each (λ r. r .gain ≤ r .allowance + c) rs) where
     soon : ℕ → ℕ → Bool
     soon k r = leb (time l r) (k * c)
 
@@ -169,7 +169,7 @@ module _ (rs : List Rule) (n : ℕ) (l : List ℕ) (w : Each (Within n) rs) (lea
         gain : (k q : ℕ) → q < n → soon k q ≡ false → (p : ℕ) × (p < n) × (soon k p ≡ false) × (soon (suc k) p ≡ true)
         gain k q h e = pick-some step rs w steps (cross (soon k) (λ r b o. omega (arith, leb-false (time l r) (k * c) o)) q h e)
           where
-            step : (r : Rule) → Within n r → r .gain ≤ r .slack + c → Crosses l (soon k) r
+            step : (r : Constraint) → Within n r → r .gain ≤ r .allowance + c → Crosses l (soon k) r
                 → (p : ℕ) × (p < n) × (soon k p ≡ false) × (soon (suc k) p ≡ true)
             step r u v x =
                 (r .dst, u .1, x .1, le-leb (time l (r .dst)) (suc k * c) (omega (arith, leb-true (time l (r .src)) (k * c) (x .0))))

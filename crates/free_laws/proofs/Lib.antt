@@ -1,5 +1,5 @@
 pub mod Lists
-pub mod RuleList
+pub mod ConstraintList
 pub mod Sweep
 pub mod Count
 pub mod Least

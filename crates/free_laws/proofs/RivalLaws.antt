@@ -9,8 +9,8 @@ use Rattle.timing.specs.declared.Pair.{Pair}
 use Rattle.timing.specs.Rules.{time, Each, InRange}
 use Rattle.free_laws.specs.Free.{freeAt, freePeriod}
 use Rattle.free_laws.specs.Rival.{Frac, fracAt, AtMost, RivalAdmissible, Proper}
-use Rattle.free_laws.specs.Rule.{Meets, rules}
-use Rattle.free_laws.proofs.RuleList.{each-rule}
+use Rattle.free_laws.specs.Constraint.{Meets, constraints}
+use Rattle.free_laws.proofs.ConstraintList.{each-rule}
 use Rattle.free_laws.proofs.FreeLaws.{free-is-least, meets→works, period-least}
 
 -- ---- rounding down keeps a rule
@@ -57,7 +57,7 @@ lift (f ∷ fs) p k h (suc r) = lift fs (p .1) k (omega arith) r
 
 -- a rival schedule at a whole period, lifted by k
 module _ (n t : ℕ) (ps : List Pair) (w : Each (InRange n) ps) (s : List Frac) (proper : Proper s) (rival : RivalAdmissible t ps s) where
-  lifted : (k : ℕ) → ((r : ℕ) → Lifts k (fracAt s r)) → Each (Meets (λ r. whole k (fracAt s r))) (rules t ps)
+  lifted : (k : ℕ) → ((r : ℕ) → Lifts k (fracAt s r)) → Each (Meets (λ r. whole k (fracAt s r))) (constraints t ps)
   lifted k lifts =
       each-rule (Meets (λ r. whole k (fracAt s r))) t (λ p m.
       let a = lifts (p .launch) in

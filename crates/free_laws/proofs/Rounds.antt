@@ -12,8 +12,8 @@ use borrow.Author.Tests.{leb-true, leb-false, le-leb}
 use Rattle.timing.specs.Rules.{time, Each}
 use Rattle.buffers.specs.Over.{zeros}
 use Rattle.free_laws.proofs.Lists.{pick-some}
-use Rattle.free_laws.specs.Rule.{Rule, Meets, Within, Below, Least}
-use Rattle.free_laws.specs.Raise.{Reach, Round, Capped}
+use Rattle.free_laws.specs.Constraint.{Constraint, Meets, Within, Below, Least}
+use Rattle.free_laws.specs.Raise.{Attained, Round, Capped}
 use Rattle.free_laws.proofs.Sweep.{zeros-below, sweeps}
 use Rattle.free_laws.proofs.Count.{count, count-full, grow, grow-first}
 use Rattle.free_laws.proofs.Least.{after, after-round, Crosses, cross, some-zero}
@@ -32,12 +32,12 @@ pub placed : List ℕ → List ℕ → ℕ → Bool
 placed l x r = leb (time l r) (time x r)
 
 -- x after k rounds: below whatever meets the rules, and one more register in its place for each round
-pub record Rounds (c n : ℕ) (rs : List Rule) (x : List ℕ) (k : ℕ) : Type 0 where
+pub record Rounds (c n : ℕ) (rs : List Constraint) (x : List ℕ) (k : ℕ) : Type 0 where
   pub size : length x ≡ n
   pub low : (f : ℕ → ℕ) → Each (Meets f) rs → Below x f
   pub far : (l : List ℕ) → Capped c l → Least rs n l → min (suc k) n ≤ count n (placed l x)
 
-module _ (n : ℕ) (rs : List Rule) (w : Each (Within n) rs) where
+module _ (n : ℕ) (rs : List Constraint) (w : Each (Within n) rs) where
   pub rounds-start : (c : ℕ) → Rounds c n rs (zeros n) 0
   unfolding placed
   rounds-start c =
@@ -65,10 +65,10 @@ module _ (n : ℕ) (rs : List Rule) (w : Each (Within n) rs) where
         gain : (l : List ℕ) → Capped c l → Least rs n l → (q : ℕ) → q < n → placed l x q ≡ false
             → (p : ℕ) × (p < n) × (placed l x p ≡ false) × (placed l y p ≡ true)
         gain l h least q b e =
-            pick-some step rs w (o .reach)
+            pick-some step rs w (o .attained)
             (cross rs n l w least (placed l x) (λ r j i. omega (arith, leb-false (time l r) (time x r) i)) q b e)
           where
-            step : (r : Rule) → Within n r → Reach c x y r → Crosses l (placed l x) r → (p : ℕ) × (p < n) × (placed l x p ≡ false) × (placed l y p ≡ true)
+            step : (r : Constraint) → Within n r → Attained c x y r → Crosses l (placed l x) r → (p : ℕ) × (p < n) × (placed l x p ≡ false) × (placed l y p ≡ true)
             step r u v z = (
               r .dst,
               u .1,

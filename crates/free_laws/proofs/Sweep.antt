@@ -10,8 +10,8 @@ use Rattle.timing.specs.Rules.{time, Each}
 use Rattle.buffers.specs.Over.{zeros}
 use Rattle.free_laws.specs.Free.{raise}
 use Rattle.free_laws.proofs.Lists.{each-map, each-all}
-use Rattle.free_laws.specs.Rule.{Rule, Meets, Within, Below}
-use Rattle.free_laws.specs.Raise.{ask, Reach, Round}
+use Rattle.free_laws.specs.Constraint.{Constraint, Meets, Within, Below}
+use Rattle.free_laws.specs.Raise.{ask, Attained, Round}
 
 pub zeros-below : (n : ℕ) (f : ℕ → ℕ) → Below (zeros n) f
 zeros-below zero f r = zero-le
@@ -34,44 +34,44 @@ set-below (a ∷ x) (suc i) v (suc j) f h k = set-below x i v j (λ r. f (suc r)
 
 -- ---- one rule
 
-pub reach-more : (c : ℕ) (x x′ y y′ : List ℕ) (r : Rule) → Below x (time x′) → Below y (time y′) → Reach c x′ y r → Reach c x y′ r
-reach-more c x x′ y y′ r a b h = omega (arith, a (r .src), b (r .dst))
+pub attained-more : (c : ℕ) (x x′ y y′ : List ℕ) (r : Constraint) → Below x (time x′) → Below y (time y′) → Attained c x′ y r → Attained c x y′ r
+attained-more c x x′ y y′ r a b h = omega (arith, a (r .src), b (r .dst))
 
 -- y is x with the destination raised, no further than the rule asks
-pub record Obeyed (c : ℕ) (r : Rule) (x y : List ℕ) : Type 0 where
+pub record Obeyed (c : ℕ) (r : Constraint) (x y : List ℕ) : Type 0 where
   pub size : length y ≡ length x
   pub up : Below x (time y)
   pub low : (f : ℕ → ℕ) → Meets f r → Below x f → Below y f
-  pub reach : Reach c x y r
+  pub attained : Attained c x y r
 
-pub obeyed : (c : ℕ) (r : Rule) (x : List ℕ) (v : ℕ) → r .dst < length x → time x (r .dst) ≤ v → v ≤ max (time x (r .dst)) (ask r x)
+pub obeyed : (c : ℕ) (r : Constraint) (x : List ℕ) (v : ℕ) → r .dst < length x → time x (r .dst) ≤ v → v ≤ max (time x (r .dst)) (ask r x)
     → min c (ask r x) ≤ v → Obeyed c r x (set x (r .dst) v)
 obeyed c r x v h up far near =
     record {
       size = length-set x (r .dst) v;
       up = λ j. set-up x (r .dst) v j up;
       low = λ f m b j. set-below x (r .dst) v j f (b j) (omega (arith, b (r .src), b (r .dst)));
-      reach = rw (getD-set-same x (r .dst) v 0 h) near;
+      attained = rw (getD-set-same x (r .dst) v 0 h) near;
     }
 
 -- ---- a round
 
 -- the destination raised as far as the rule asks
-abbrev pub obey : Rule → List ℕ → List ℕ
+abbrev pub obey : Constraint → List ℕ → List ℕ
 obey r x = raise (r .dst) (ask r x) x
 
 -- each rule once, in order
-unfoldable pub sweep : List Rule → List ℕ → List ℕ
+unfoldable pub sweep : List Constraint → List ℕ → List ℕ
 sweep [] x = x
 sweep (r ∷ rs) x = sweep rs (obey r x)
 
-unfoldable pub sweeps : ℕ → List Rule → List ℕ → List ℕ
+unfoldable pub sweeps : ℕ → List Constraint → List ℕ → List ℕ
 sweeps zero rs x = x
 sweeps (suc k) rs x = sweep rs (sweeps k rs x)
 
-pub sweep-round : (c n : ℕ) (rs : List Rule) (x : List ℕ) → Each (Within n) rs → length x ≡ n → Round c rs x (sweep rs x)
+pub sweep-round : (c n : ℕ) (rs : List Constraint) (x : List ℕ) → Each (Within n) rs → length x ≡ n → Round c rs x (sweep rs x)
 unfolding sweep
-sweep-round c n [] x w l = record { size = refl; up = λ j. le-refl _; low = λ f m b. b; reach = tt }
+sweep-round c n [] x w l = record { size = refl; up = λ j. le-refl _; low = λ f m b. b; attained = tt }
 sweep-round c n (r ∷ rs) x w l =
     let o = obeyed c r x (max (time x (r .dst)) (ask r x)) (omega (arith, w .0 .1)) (omega arith) (omega arith) (omega arith) in
     let s = sweep-round c n rs (obey r x) (w .1) (o .size ∙ l) in
@@ -79,13 +79,13 @@ sweep-round c n (r ∷ rs) x w l =
       size = s .size ∙ o .size;
       up = λ j. le-trans (o .up j) (s .up j);
       low = λ f m b. s .low f (m .1) (o .low f (m .0) b);
-      reach = (
-        reach-more c x x (obey r x) (sweep rs (obey r x)) r (λ j. le-refl _) (s .up) (o .reach),
-        each-map (λ q. reach-more c x (obey r x) (sweep rs (obey r x)) (sweep rs (obey r x)) q (o .up) (λ j. le-refl _)) rs (s .reach),
+      attained = (
+        attained-more c x x (obey r x) (sweep rs (obey r x)) r (λ j. le-refl _) (s .up) (o .attained),
+        each-map (λ q. attained-more c x (obey r x) (sweep rs (obey r x)) (sweep rs (obey r x)) q (o .up) (λ j. le-refl _)) rs (s .attained),
       );
     }
 
 -- what a round leaves as it is meets the rules
-pub still-meets : (n : ℕ) (rs : List Rule) (x : List ℕ) → Each (Within n) rs → length x ≡ n → sweep rs x ≡ x → Each (Meets (time x)) rs
+pub still-meets : (n : ℕ) (rs : List Constraint) (x : List ℕ) → Each (Within n) rs → length x ≡ n → sweep rs x ≡ x → Each (Meets (time x)) rs
 still-meets n rs x w l e =
-    each-map (λ r h. omega (arith, h (ask r x))) rs (each-all (λ c. Reach c x x) rs (λ c. rw e at (sweep-round c n rs x w l .reach)))
+    each-map (λ r h. omega (arith, h (ask r x))) rs (each-all (λ c. Attained c x x) rs (λ c. rw e at (sweep-round c n rs x w l .attained)))

@@ -1,5 +1,5 @@
 pub mod Free
-pub mod Rule
+pub mod Constraint
 pub mod Raise
 pub mod Rival
 pub mod Unbeaten

@@ -19,10 +19,10 @@ Proper = Each (λ f. 0 < f .den)
 abbrev pub fracAt : List Frac → ℕ → Frac
 fracAt s r = getD s r (record { over = 0; under = 0; den = 1 })
 
--- a + gain ≤ b + slack, multiplied by both denominators
+-- a + gain ≤ b + allowance, multiplied by both denominators
 abbrev pub AtMost : Frac → ℕ → Frac → ℕ → Type 0
-AtMost a gain b slack =
-    a .over * b .den + b .under * a .den + gain * (a .den * b .den) ≤ b .over * a .den + a .under * b .den + slack * (a .den * b .den)
+AtMost a gain b allowance =
+    a .over * b .den + b .under * a .den + gain * (a .den * b .den) ≤ b .over * a .den + a .under * b .den + allowance * (a .den * b .den)
 
 -- both rules at period t, with launch time a and capture time b
 pub record MeetsFrac (t : ℕ) (a b : Frac) (p : Pair) : Type 0 where

@@ -15,7 +15,7 @@ use Rattle.free_laws.specs.Free.{common, freePeriod, freeSchedule}
 use Rattle.free_laws.specs.Unbeaten.{UnbeatenFree}
 use Rattle.free_laws.proofs.UnbeatenLaws.{free-unbeaten}
 use Rattle.checker.specs.Check.{Ready}
-use Rattle.climb.specs.Climbed.{Climbed}
+use Rattle.free_climb.specs.Climbed.{Climbed}
 use Rattle.free_schedule.specs.FreeCall.{freeing, freeReply, FreeAs, Counted, Roomy, FreeIn}
 use Rattle.free_schedule.specs.declared.FreeAnswer.the-variants.{Periods, Refused}
 

@@ -14,7 +14,7 @@ pub fn fill(words: &[u32], n: usize, count: usize, answer: &mut [u32]) -> u32
     requires { ⌜ Roomy (now words) n count (now answer) ⌝ }
     ensures { λ r. ⌜ FreeIn (now (words .entry)) (now (answer .entry)) (now (answer .exit)) r ⌝ }
 {
-    climb::climb(words, count, &mut answer[..n])
+    free_climb::climb(words, count, &mut answer[..n])
 }
 
 // The answer for an accepted list of n registers.
@@ -25,7 +25,7 @@ fn settle(words: &[u32], n: usize, count: usize, answer: &mut [u32]) -> FreeAnsw
     if answer.len() < n {
         return FreeAnswer::Refused(2, 0);
     }
-    let common = climb::common(words, count);
+    let common = free_climb::common(words, count);
     let free = fill(words, n, count, answer);
     FreeAnswer::Periods(common, free)
 }

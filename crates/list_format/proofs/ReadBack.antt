@@ -19,7 +19,7 @@ use Rattle.refusals.specs.declared.Fault.the-variants.{None}
 use Rattle.refusals.proofs.CheckLaws.{pass-both, passes, all-pass}
 use Rattle.list_format.specs.Lists.{word, registers, pairCount, pairPlace, pairAt, valueChecks, ValuesIn}
 use Rattle.list_format.specs.Read.{fourOf, numbersOf}
-use Rattle.list_format.specs.Write.{givenCount, givenPair, threeOf, openList, closed, wordsOf, countChecks, givenChecks, writeChecks, writing}
+use Rattle.list_format.specs.Write.{givenCount, givenPair, threeOf, openList, withEnd, wordsOf, countChecks, givenChecks, writeChecks, writing}
 use Rattle.list_format.proofs.ListLaws.{ListIn, KindsIn, no-difference, values-pass}
 
 -- a word of a kind, from its payload
@@ -80,7 +80,7 @@ module _ (ws : List ℕ) (l : ListIn ws) where
   pub words-back : wordsOf (registers ws) (numbersOf ws) ≡ ws
   words-back =
       let at : ℕ = pairPlace (pairCount ws) in
-      ap closed (ap (openList (registers ws) (numbersOf ws)) (count-is ws) ∙ open-is)
+      ap withEnd (ap (openList (registers ws) (numbersOf ws)) (count-is ws) ∙ open-is)
       ∙ rw (← l .end .payload, of-kind 7 (word ws at) (l .end .kind))
       (sym (take-suc ws at 0 (omega (arith, l .head .size))) ∙ take-all (suc at) ws (omega (arith, l .head .size)))
 

@@ -19,7 +19,7 @@ use Rattle.refusals.specs.declared.Fault.the-variants.{None}
 use Rattle.refusals.proofs.CheckLaws.{both-pass, pass-both, passed, passes, each-passes}
 use Rattle.list_format.specs.Lists.{word, registers, pairCount, pairPlace, pairOf, pairAt, listChecks, ValuesIn}
 use Rattle.list_format.specs.Read.{fourOf, numbersOf, readChecks, reading}
-use Rattle.list_format.specs.Write.{givenCount, givenPair, FitsWords, threeOf, openList, closed, wordsOf, countChecks, givenChecks, writeChecks, GivenIn}
+use Rattle.list_format.specs.Write.{givenCount, givenPair, FitsWords, threeOf, openList, withEnd, wordsOf, countChecks, givenChecks, writeChecks, GivenIn}
 use Rattle.list_format.proofs.ListLaws.{HeadIn, KindsIn, EndIn, ListIn, same, values-in, list-pass}
 
 pub given-in : (n : ℕ) (xs : List ℕ) (room : ℕ) → firstFault (writeChecks n xs room) ≡ None → GivenIn n xs

@@ -40,12 +40,12 @@ abbrev pub openList : ℕ → List ℕ → ℕ → List ℕ
 openList n xs k = headWord n (givenCount xs) ∷ run (λ i. threeOf (givenPair xs i)) k
 
 -- the end word added
-abbrev pub closed : List ℕ → List ℕ
-closed ws = ws ++ (endWord (checksum ws) ∷ [])
+abbrev pub withEnd : List ℕ → List ℕ
+withEnd ws = ws ++ (endWord (checksum ws) ∷ [])
 
 -- the whole list
 abbrev pub wordsOf : ℕ → List ℕ → List ℕ
-wordsOf n xs = closed (openList n xs (givenCount xs))
+wordsOf n xs = withEnd (openList n xs (givenCount xs))
 
 -- ---- the checks, in order
 

@@ -27,9 +27,9 @@ use Rattle.list_format.specs.declared.Writing.the-variants.{Written, Refused as
 use Rattle.list_format.proofs.ListLaws.{numbers-in}
 use Rattle.list_format.proofs.ReadBack.{numbers-length}
 use Rattle.list_format.proofs.WriteBack.{given-in, words-length}
-use Rattle.pieces.specs.Pieces.{Put}
-use Rattle.pieces.proofs.PutLaws.{put-within}
-use Rattle.plain_words.specs.PlainWords.{refusalLine, faultLine}
+use Rattle.text_pieces.specs.Pieces.{Put}
+use Rattle.text_pieces.proofs.PutLaws.{put-within}
+use Rattle.refusal_text.specs.PlainWords.{refusalLine, faultLine}
 use Rattle.list_bytes.specs.ListBytes.{maxWords, maxBytes}
 use Rattle.scan.specs.declared.Scanned.{Scanned}
 use Rattle.scan.specs.declared.Scanned.the-variants.{Numbers, Faulty}

@@ -19,17 +19,17 @@ use Rattle.list_format.specs.Lists.{registers, pairCount, pairAt, listChecks, I
 use Rattle.list_format.specs.Read.{fourOf, numbersOf, readChecks, reading}
 use Rattle.list_format.proofs.ListLaws.{ListIn, accepted-in, accepted→none}
 use Rattle.list_format.proofs.ReadBack.{count-is, number-at, read-back}
-use Rattle.pieces.specs.Pieces.{number, space, newline}
-use Rattle.pieces.proofs.DecimalLaws.{decimal-few}
+use Rattle.text_pieces.specs.Pieces.{number, space, newline}
+use Rattle.text_pieces.proofs.DecimalLaws.{decimal-few}
 use Rattle.scan.specs.declared.State.{State}
 use Rattle.scan.specs.declared.Scanned.the-variants.{Numbers, Faulty}
-use Rattle.scan.specs.Scan.{maxNumbers, textBytes, start, closed, lineFault, finished, kept, after, ended, last, numbersOf as numbersIn, scanned, storedOf}
+use Rattle.scan.specs.Scan.{maxNumbers, textBytes, start, numberEnded, lineFault, finished, kept, after, ended, last, scannedNumbers, scanned, storedOf}
 use Rattle.scan.proofs.CaseLaws.{line-next, finish-some, blank-line, pair-line}
 use Rattle.scan.proofs.ReadsLaws.{Reads, reads-none, reads-then, at, reads-space, reads-newline}
-use Rattle.plain_words.specs.PlainWords.{refusalLine}
+use Rattle.refusal_text.specs.PlainWords.{refusalLine}
 use Rattle.list_bytes.specs.ListBytes.{maxWords, maxBytes, listOf}
 use Rattle.list_bytes.proofs.LoadLaws.{list-back}
-use Rattle.list_text.specs.ListText.{fourLine, pairLine, textOf, shownDone, shown, listBytes, madeOf, made}
+use Rattle.list_text.specs.ListText.{fourLine, pairLine, textOf, shownDone, shownText, listBytes, madeOf, made}
 
 -- a number of at most k digits, with the byte that ends it
 short : (k n end : ℕ) → n < 10 ^ suc k → length (number n end) ≤ k + 2
@@ -49,7 +49,7 @@ four-reads line count a b c d some room ha hb hc hd =
 
 -- the end of a text between two lines
 end-is : (line count : ℕ) → 0 < count → at true (line + 1) count count ≡ finished (at true line count count)
-unfolding closed
+unfolding numberEnded
 end-is line count some =
     let s = at true line count count in
     line-next s refl (blank-line count count true refl refl) refl ∙ finish-some s refl refl refl (λ e. omega arith)
@@ -164,7 +164,7 @@ counts bs = go (ltb maxBytes (length bs)) refl (eqb (length bs % 4) 0) refl
     go false e false e′ h = absurd (omega arith)
 
 -- what is shown of the bytes of an accepted list makes a list again, of those bytes
-pub shown-made : (bs : List ℕ) → ((i : ℕ) → getD bs i 0 < 2 ^ 8) → IsAccepted (listOf bs) → made (shown bs) ≡ listBytes bs
+pub shown-made : (bs : List ℕ) → ((i : ℕ) → getD bs i 0 < 2 ^ 8) → IsAccepted (listOf bs) → made (shownText bs) ≡ listBytes bs
 shown-made bs small a =
     let l = accepted-in (listOf bs) a in
     let both = counts bs (omega (arith, l .head .size)) in

@@ -10,11 +10,11 @@ use Rattle.words.specs.Bytes.{toBytes}
 use Rattle.refusals.specs.Reply.{told}
 use Rattle.list_format.specs.Read.{reading}
 use Rattle.list_format.specs.Write.{givenCount, writing}
-use Rattle.pieces.specs.Pieces.{number, space, newline, Put}
+use Rattle.text_pieces.specs.Pieces.{number, space, newline, Put}
 use Rattle.scan.specs.declared.Scanned.{Scanned}
 use Rattle.scan.specs.declared.Scanned.the-variants.{Numbers, Faulty}
 use Rattle.scan.specs.Scan.{scanned, storedOf}
-use Rattle.plain_words.specs.PlainWords.{refusalLine, faultLine}
+use Rattle.refusal_text.specs.PlainWords.{refusalLine, faultLine}
 use Rattle.list_bytes.specs.ListBytes.{maxWords, maxBytes, listOf}
 use Rattle.list_text.specs.declared.Made.{Made}
 use Rattle.list_text.specs.declared.Made.the-variants.{Bytes, Fault}
@@ -38,8 +38,8 @@ abbrev pub shownDone : List ℕ → List ℕ → List ℕ
 shownDone returned stored = textOf (getD returned 0 0) stored
 
 -- what is shown for the bytes of a list
-abbrev pub shown : List ℕ → List ℕ
-shown bs = told refusalLine shownDone (reading (listOf bs) (4 * maxPairs))
+abbrev pub shownText : List ℕ → List ℕ
+shownText bs = told refusalLine shownDone (reading (listOf bs) (4 * maxPairs))
 
 -- ---- from a text to the bytes of its list
 

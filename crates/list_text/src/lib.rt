@@ -2,22 +2,22 @@
 // The contracts cite `specs/ListText.antt`.
 ghost use Prim.Native.Nat.{_+_, _*_, _≤_};
 ghost use lib.ListN.{length};
-ghost use Rattle.pieces.specs.Pieces.{Put};
+ghost use Rattle.text_pieces.specs.Pieces.{Put};
 ghost use Rattle.refusals.specs.Reply.{told};
-ghost use Rattle.plain_words.specs.PlainWords.{refusalLine};
+ghost use Rattle.refusal_text.specs.PlainWords.{refusalLine};
 ghost use Rattle.list_format.specs.Read.{reading};
 ghost use Rattle.list_bytes.specs.ListBytes.{maxBytes};
 ghost use Rattle.timing.specs.Limits.{maxPairs};
-ghost use Rattle.list_text.specs.ListText.{fourLine, pairLine, textOf, shownDone, shown, madeFrom, made, MadeAs};
+ghost use Rattle.list_text.specs.ListText.{fourLine, pairLine, textOf, shownDone, shownText, madeFrom, made, MadeAs};
 ghost use Rattle.buffers.specs.Run.{run};
 ghost use Rattle.words.specs.Bytes.{toBytes};
 use list_bytes::MAX_BYTES;
 use list_bytes::MAX_WORDS;
 use list_format::Reading;
 use list_format::Writing;
-use pieces::put_number;
 use scan::MAX_NUMBERS;
 use scan::Scanned;
+use text_pieces::put_number;
 use timing::MAX_PAIRS;
 
 // The numbers of the longest list.
@@ -76,7 +76,7 @@ fn put_words(text: &mut [u8], words: &[u32]) -> usize
 {
     let mut numbers = [0u32; PAIR_NUMBERS];
     match read_list::read(words, &mut numbers) {
-        Reading::Refused(number, place) => plain_words::put_refusal(text, number, place),
+        Reading::Refused(number, place) => refusal_text::put_refusal(text, number, place),
         Reading::Read(n, m) => {
             let count = 4 * m as usize;
             put_list(text, n, &numbers[..count])
@@ -86,7 +86,7 @@ fn put_words(text: &mut [u8], words: &[u32]) -> usize
 
 // The text for the bytes of a list, in the first places of `text`; later places keep their contents. The count of its bytes is returned.
 pub fn show(bytes: &[u8], text: &mut [u8; TEXT_PLACES]) -> usize
-    ensures { λ r. ⌜ Put (84 * maxPairs + 133) (shown (now (bytes .entry))) (now (text .entry)) 0 (now (text .exit)) r ⌝ }
+    ensures { λ r. ⌜ Put (84 * maxPairs + 133) (shownText (now (bytes .entry))) (now (text .entry)) 0 (now (text .exit)) r ⌝ }
 {
     let mut words = [0u32; MAX_WORDS];
     let count = list_bytes::load(bytes, &mut words);
@@ -117,7 +117,7 @@ fn put_made(out: &mut [u8], n: u32, numbers: &[u32]) -> Made
     let mut words = [0u32; MAX_WORDS];
     match write_list::write(n, numbers, &mut words) {
         Writing::Refused(number, place) => {
-            let size = plain_words::put_refusal(out, number, place);
+            let size = refusal_text::put_refusal(out, number, place);
             Made::Fault(size)
         }
         Writing::Written(count) => {
@@ -135,7 +135,7 @@ pub fn make(text: &[u8], out: &mut [u8; MAX_BYTES]) -> Made
     let mut numbers = [0u32; MAX_NUMBERS];
     match scan::scan(text, true, &mut numbers) {
         Scanned::Faulty(fault, line) => {
-            let size = plain_words::put_fault(out, fault, line);
+            let size = refusal_text::put_fault(out, fault, line);
             Made::Fault(size)
         }
         Scanned::Numbers(count) => put_made(out, numbers[0], &numbers[1..count]),

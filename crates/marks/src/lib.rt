@@ -4,7 +4,7 @@ ghost use mathlib.Core.Path.{_≡_};
 ghost use Prim.Native.Nat.{_<_};
 ghost use lib.ListN.{length};
 ghost use Rattle.timing.specs.Rules.{pairMet, InRange};
-ghost use Rattle.split_laws.specs.Split.{timing as timingOf};
+ghost use Rattle.split_laws.specs.Split.{timeOf};
 ghost use Rattle.split_laws.specs.Table.{isLate, rowAt, flagAt};
 ghost use Rattle.split_laws.specs.Marks.{joined, Forced, Followed, Applied, Seeded, Settles};
 use split_laws::Change;
@@ -142,7 +142,7 @@ pub fn settle(marks: &mut [u32], pair: Pair, flags: [u32; 4]) -> Change
 
 // The time of a register with this mark: late is the offset, all else 0.
 pub fn time_of(offset: u32, mark: u32) -> u32
-    ensures { λ r. ⌜ r ≡ timingOf offset (isLate mark) ⌝ }
+    ensures { λ r. ⌜ r ≡ timeOf offset (isLate mark) ⌝ }
 {
     if mark == LATE {
         return offset;

@@ -14,7 +14,7 @@ use Rattle.timing.specs.Rules.{Each}
 use Rattle.timing.proofs.RuleLaws.{test→met, met→test}
 use Rattle.free_laws.specs.Free.{common}
 use Rattle.free_laws.proofs.Lists.{each-map, each-zip}
-use Rattle.split_laws.specs.Split.{timing, works}
+use Rattle.split_laws.specs.Split.{timeOf, works}
 use Rattle.split_laws.specs.Marks.{keeps}
 use Rattle.split_laws.proofs.ClosureLaws.{works-each, each-works}
 use Rattle.plan_laws.specs.Unbeaten.{choiceOf, MeetsOver, WorksOver}
@@ -27,7 +27,7 @@ module _ (t s : ℕ) (c : List Bool) (ps : List Pair) where
     where
       over : (p : Pair) → keeps t s p c ≡ true → MeetsOver 1 t s c p
       over p k =
-          let m = test→met p t (timing s (choiceOf c (p .launch))) (timing s (choiceOf c (p .capture))) k in
+          let m = test→met p t (timeOf s (choiceOf c (p .launch))) (timeOf s (choiceOf c (p .capture))) k in
           record { setup = omega (arith, m .setup); hold = omega (arith, m .hold) }
 
   pub over→works : WorksOver 1 t s c ps → works t s ps c ≡ true
@@ -37,7 +37,7 @@ module _ (t s : ℕ) (c : List Bool) (ps : List Pair) where
 
 -- ---- a coarser unit
 
-timing-scale : (k s : ℕ) (a : Bool) → timing (s * k) a ≡ timing s a * k
+timing-scale : (k s : ℕ) (a : Bool) → timeOf (s * k) a ≡ timeOf s a * k
 timing-scale k s true = refl
 timing-scale k s false = omega arith
 
@@ -48,8 +48,8 @@ over-coarser k u t s c ps pos = each-map coarser ps
     coarser p m =
         let a = timing-scale k s (choiceOf c (p .launch)) in
         let b = timing-scale k s (choiceOf c (p .capture)) in
-        let x : ℕ = timing s (choiceOf c (p .launch)) in
-        let y : ℕ = timing s (choiceOf c (p .capture)) in
+        let x : ℕ = timeOf s (choiceOf c (p .launch)) in
+        let y : ℕ = timeOf s (choiceOf c (p .capture)) in
         let su : (x + p .greatest * u) * k ≤ (y + t) * k = omega (arith, m .setup) in
         let ho : y * k ≤ (x + p .least * u) * k = omega (arith, m .hold) in
         record { setup = le-of-mul-le-mul-right su pos; hold = le-of-mul-le-mul-right ho pos }
@@ -81,13 +81,13 @@ common-is P (p ∷ ps) one h = go (max-either (p .greatest) (common ps)) (common
 
 -- ---- one split
 
-timing-le : (s : ℕ) (a : Bool) → timing s a ≤ s
+timing-le : (s : ℕ) (a : Bool) → timeOf s a ≤ s
 timing-le s true = le-refl s
 timing-le s false = omega arith
 
 -- a smaller offset, if the period and it reach the greatest delay: the four choices of a pair
-lower-four : (a b : Bool) (t s o G L : ℕ) → o ≤ s → G ≤ t + o → timing s a + G ≤ timing s b + t → timing s b ≤ timing s a + L
-    → (timing o a + G ≤ timing o b + t) × (timing o b ≤ timing o a + L)
+lower-four : (a b : Bool) (t s o G L : ℕ) → o ≤ s → G ≤ t + o → timeOf s a + G ≤ timeOf s b + t → timeOf s b ≤ timeOf s a + L
+    → (timeOf o a + G ≤ timeOf o b + t) × (timeOf o b ≤ timeOf o a + L)
 lower-four false false t s o G L h g p q = (p, q)
 lower-four false true t s o G L h g p q = (omega arith, omega arith)
 lower-four true false t s o G L h g p q = (omega arith, omega arith)

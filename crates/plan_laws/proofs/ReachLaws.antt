@@ -13,14 +13,14 @@ use Rattle.timing.specs.Rules.{time, Each}
 use Rattle.timing.proofs.RuleLaws.{test→met, met→test}
 use Rattle.search.proofs.SearchLaws.{IsLeast}
 use Rattle.free_laws.proofs.Lists.{each-zip}
-use Rattle.free_laws.proofs.RuleList.{meets-longer, admissible→meets}
-use Rattle.free_laws.specs.Rule.{Bound}
-use Rattle.split_laws.specs.Split.{nothing, found, timing, timings, meets, works, splits, firstOf, firstSplit}
+use Rattle.free_laws.proofs.ConstraintList.{meets-longer, admissible→meets}
+use Rattle.free_laws.specs.Constraint.{Bound}
+use Rattle.split_laws.specs.Split.{nothing, found, timeOf, timings, meets, works, splits, firstOf, firstSplit}
 use Rattle.split_laws.specs.Marks.{keeps}
-use Rattle.split_laws.proofs.FirstLaws.{Below, least-first}
+use Rattle.split_laws.proofs.FirstLaws.{NoLater, least-first}
 use Rattle.split_laws.proofs.ClosureLaws.{works-each, each-works, first-none}
 use Rattle.plan_laws.specs.Plan.{isFound, splitWorks}
-use Rattle.plan_laws.specs.Reach.{reachOf, Forces, Reaches, ahead, behind, Closed, reachPeriod, lateAbove}
+use Rattle.plan_laws.specs.Reach.{reachOf, Forces, Reaches, ahead, behind, ReachClosed, reachPeriod, lateAbove}
 
 -- ---- what the four choices ask of a pair at period t and offset top - t
 
@@ -32,9 +32,9 @@ Asks top t p true true = p .greatest ≤ t
 
 module _ (top t : ℕ) (p : Pair) (h : t ≤ top) (g : p .greatest ≤ top) where
   meets-asks : (a b : Bool) → meets t (top - t) p a b ≡ true → Asks top t p a b
-  meets-asks a b e = go a b (test→met p t (timing (top - t) a) (timing (top - t) b) e .setup) (test→met p t (timing (top - t) a) (timing (top - t) b) e .hold)
+  meets-asks a b e = go a b (test→met p t (timeOf (top - t) a) (timeOf (top - t) b) e .setup) (test→met p t (timeOf (top - t) a) (timeOf (top - t) b) e .hold)
     where
-      go : (a b : Bool) → timing (top - t) a + p .greatest ≤ timing (top - t) b + t → timing (top - t) b ≤ timing (top - t) a + p .least → Asks top t p a b
+      go : (a b : Bool) → timeOf (top - t) a + p .greatest ≤ timeOf (top - t) b + t → timeOf (top - t) b ≤ timeOf (top - t) a + p .least → Asks top t p a b
       go false false s d = omega arith
       go false true s d = omega arith
       go true false s d = omega arith
@@ -101,7 +101,7 @@ module _ (top : ℕ) (ps : List Pair) where
         go true true ex q = omega arith
 
     -- late where the reach is above t: the rules of a closed pair are met
-    closed-meets : (t : ℕ) → t ≤ top → Closed top W p → min (reachOf W (p .launch)) (p .greatest) ≤ t
+    closed-meets : (t : ℕ) → t ≤ top → ReachClosed top W p → min (reachOf W (p .launch)) (p .greatest) ≤ t
         → meets t (top - t) p (ltb t (reachOf W (p .launch))) (ltb t (reachOf W (p .capture))) ≡ true
     closed-meets t h closed b = asks-meets top t p h (of .under) (ltb t (reachOf W (p .launch))) (ltb t (reachOf W (p .capture))) (go _ _ refl refl)
       where
@@ -154,7 +154,7 @@ late-at t W r = ap (getD (lateAbove t W) r) (sym (le-ltb t 0 (omega arith))) ∙
 -- ---- reaches that rise no further
 
 module _ (n start top : ℕ) (ps : List Pair) (W : List ℕ) (size : length W ≡ n) (h : start ≤ top) (under : Each (λ p. p .greatest ≤ top) ps)
-    (s : Reaches top ps W) (closed : Each (Closed top W) ps) where
+    (s : Reaches top ps W) (closed : Each (ReachClosed top W) ps) where
   abbrev two : ℕ
   two = reachPeriod start ps W
 
@@ -164,11 +164,11 @@ module _ (n start top : ℕ) (ps : List Pair) (W : List ℕ) (size : length W �
       each-works t (top - t) (lateAbove t W) ps
       (each-zip keep ps (each-zip (λ p of x. (of, x)) ps (pairs-of top ps under) closed) (period-over start W ps t a))
     where
-      keep : (p : Pair) → PairOf top ps p × Closed top W p → min (reachOf W (p .launch)) (p .greatest) ≤ t → keeps t (top - t) p (lateAbove t W) ≡ true
+      keep : (p : Pair) → PairOf top ps p × ReachClosed top W p → min (reachOf W (p .launch)) (p .greatest) ≤ t → keeps t (top - t) p (lateAbove t W) ≡ true
       keep p x o = rw (late-at t W (p .launch), late-at t W (p .capture)) (closed-meets top ps W s p (x .0) t b (x .1) o)
 
   -- it is late only where every split that works is
-  pub late-least : (t : ℕ) (c : List Bool) → works t (top - t) ps c ≡ true → Below (lateAbove t W) c
+  pub late-least : (t : ℕ) (c : List Bool) → works t (top - t) ps c ≡ true → NoLater (lateAbove t W) c
   late-least t c w r e = s .late r t (ltb-true t (reachOf W r) (sym (late-at t W r) ∙ e)) c w
 
   -- so it is the first

@@ -12,12 +12,12 @@ use Rattle.free_laws.specs.Free.{common}
 use Rattle.free_laws.proofs.FreeLaws.{common-pos}
 use Rattle.split_laws.specs.Split.{timings}
 use Rattle.plan_laws.specs.Plan.{twoWorks, twoPeriod, twoOffset, twoSplit, timingsOf, twoTimings}
-use Rattle.plan_laws.specs.Reach.{Reaches, Closed, reachPeriod, lateAbove}
+use Rattle.plan_laws.specs.Reach.{Reaches, ReachClosed, reachPeriod, lateAbove}
 use Rattle.plan_laws.proofs.OffsetLaws.{below-common}
 use Rattle.plan_laws.proofs.TwoLaws.{two-common}
 use Rattle.plan_laws.proofs.ReachLaws.{late-first, two-is-least}
 
-module _ (n : ℕ) (ps : List Pair) (W : List ℕ) (size : length W ≡ n) (s : Reaches (common ps) ps W) (closed : Each (Closed (common ps) W) ps) where
+module _ (n : ℕ) (ps : List Pair) (W : List ℕ) (size : length W ≡ n) (s : Reaches (common ps) ps W) (closed : Each (ReachClosed (common ps) W) ps) where
   pub period-is : reachPeriod 1 ps W ≡ twoPeriod n ps
   unfolding twoPeriod twoWorks
   period-is =

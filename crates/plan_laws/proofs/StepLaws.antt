@@ -10,7 +10,7 @@ use lib.ListN.{length, set, length-set}
 use lib.Seq.{getD-set-same, getD-set-other}
 use Rattle.timing.specs.declared.Pair.{Pair}
 use Rattle.timing.specs.Rules.{InRange}
-use Rattle.plan_laws.specs.Reach.{reachOf, Forces, Reaches, ahead, behind, Closed, Rose, Raised, room, Told, Step}
+use Rattle.plan_laws.specs.Reach.{reachOf, Forces, Reaches, ahead, behind, ReachClosed, Rose, Raised, room, ReachTold, ReachStep}
 use Rattle.plan_laws.proofs.ReachLaws.{PairOf, ahead-under, behind-under, ahead-forces, behind-forces}
 
 room-set : (top : ℕ) (W : List ℕ) (r v : ℕ) → r < length W → reachOf W r < v → v ≤ top → room top (set W r v) < room top W
@@ -18,7 +18,7 @@ room-set top [] r v l h k = absurd (not-suc-le-zero l)
 room-set top (x ∷ W) zero v l h k = omega arith
 room-set top (x ∷ W) (suc r) v l h k = omega (arith, room-set top W r v (le-of-suc-le-suc l) h k)
 
-told-then : (top : ℕ) (D E : List ℕ → Type 0) (W M W′ : List ℕ) (o o′ : Bool) → Told o top D W M → Told o′ top E M W′ → Told (o || o′) top (λ X. D X × E X) W W′
+told-then : (top : ℕ) (D E : List ℕ → Type 0) (W M W′ : List ℕ) (o o′ : Bool) → ReachTold o top D W M → ReachTold o′ top E M W′ → ReachTold (o || o′) top (λ X. D X × E X) W W′
 told-then top D E W M W′ false false h k = (k .0 ∙ h .0, (h .1, subst E (h .0) (k .1)))
 told-then top D E W M W′ false true h k = subst (λ (X : List ℕ). room top W′ < room top X) (h .0) k
 told-then top D E W M W′ true false h k = subst⁻¹ (λ (X : List ℕ). room top X < room top W) (k .0) h
@@ -27,19 +27,19 @@ told-then top D E W M W′ true true h k = omega arith
 module _ {top : ℕ} {ps : List Pair} where
   -- ---- steps one after the other
 
-  pub step-none : {D : List ℕ → Type 0} {W : List ℕ} → Reaches top ps W → D W → Step top ps D W W false
+  pub step-none : {D : List ℕ → Type 0} {W : List ℕ} → Reaches top ps W → D W → ReachStep top ps D W W false
   step-none s d = record { size = refl; reaches = s; told = (refl, d) }
 
-  pub step-then : {D E : List ℕ → Type 0} {W M W′ : List ℕ} {o o′ o″ : Bool} → o″ ≡ (o || o′) → Step top ps D W M o → Step top ps E M W′ o′
-      → Step top ps (λ X. D X × E X) W W′ o″
+  pub step-then : {D E : List ℕ → Type 0} {W M W′ : List ℕ} {o o′ o″ : Bool} → o″ ≡ (o || o′) → ReachStep top ps D W M o → ReachStep top ps E M W′ o′
+      → ReachStep top ps (λ X. D X × E X) W W′ o″
   step-then {D} {E} {W} {M} {W′} {o} {o′} e h k =
       rw e (record { size = k .size ∙ h .size; reaches = k .reaches; told = told-then top D E W M W′ o o′ (h .told) (k .told) })
 
   -- a step, read as bringing about less
-  pub step-with : {D E : List ℕ → Type 0} {W W′ : List ℕ} {o : Bool} → (D W → E W) → Step top ps D W W′ o → Step top ps E W W′ o
+  pub step-with : {D E : List ℕ → Type 0} {W W′ : List ℕ} {o : Bool} → (D W → E W) → ReachStep top ps D W W′ o → ReachStep top ps E W W′ o
   step-with {D} {E} {W} {W′} {o} d h = record { size = h .size; reaches = h .reaches; told = go o (h .told) }
     where
-      go : (o : Bool) → Told o top D W W′ → Told o top E W W′
+      go : (o : Bool) → ReachTold o top D W W′ → ReachTold o top E W W′
       go false x = (x .0, d (x .1))
       go true x = x
 
@@ -57,7 +57,7 @@ module _ {top : ℕ} {ps : List Pair} where
       late j (no e) = rw (getD-set-other W r j v 0 e) (s .late j)
 
   step-raise : (W : List ℕ) (r v : ℕ) (o : Bool) (W′ : List ℕ) → Reaches top ps W → r < length W → v ≤ top → Forces top ps r v → Rose o r v W W′
-      → Step top ps (λ X. v ≤ reachOf X r) W W′ o
+      → ReachStep top ps (λ X. v ≤ reachOf X r) W W′ o
   step-raise W r v false W′ s l h f x = rw (x .0) (step-none s (x .1))
   step-raise W r v true W′ s l h f x =
       rw (x .0) (record { size = length-set W r v; reaches = reaches-set W r v s l h f; told = room-set top W r v l (x .1) h })
@@ -66,13 +66,13 @@ module _ {top : ℕ} {ps : List Pair} where
 
   pub pair-step : {p : Pair} → PairOf top ps p → {W M W′ : List ℕ} → InRange (length W) p → Reaches top ps W → {x y o : Bool}
       → Raised (p .capture) (ahead top p W) W M x → Raised (p .launch) (behind top p M) M W′ y → o ≡ (x || y)
-      → Step top ps (λ X. Closed top X p) W W′ o
+      → ReachStep top ps (λ X. ReachClosed top X p) W W′ o
   pair-step {p} of {W} {M} {W′} inside s {x} {y} a b e =
       let one = step-raise W (p .capture) (ahead top p W) x M s (inside .capture) (ahead-under top ps W s p of) (ahead-forces top ps W s p of) (a .rose) in
       let two = step-raise M (p .launch) (behind top p M) y W′ (one .reaches) (rw (one .size) (inside .launch)) (behind-under top ps M (one .reaches) p of) (behind-forces top ps M (one .reaches) p of) (b .rose) in
       rw e (both x (a .rose) (step-then refl one two))
     where
-      both : (x : Bool) → Rose x (p .capture) (ahead top p W) W M → Step top ps (λ X. (ahead top p W ≤ reachOf X (p .capture)) × (behind top p M ≤ reachOf X (p .launch))) W W′ (x || y)
-          → Step top ps (λ X. Closed top X p) W W′ (x || y)
+      both : (x : Bool) → Rose x (p .capture) (ahead top p W) W M → ReachStep top ps (λ X. (ahead top p W ≤ reachOf X (p .capture)) × (behind top p M ≤ reachOf X (p .launch))) W W′ (x || y)
+          → ReachStep top ps (λ X. ReachClosed top X p) W W′ (x || y)
       both false r h = step-with (λ d. record { capture = d .0; launch = subst (λ (X : List ℕ). behind top p X ≤ reachOf W (p .launch)) (r .0) (d .1) }) h
       both true r h = record { size = h .size; reaches = h .reaches; told = h .told }

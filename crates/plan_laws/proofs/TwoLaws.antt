@@ -10,7 +10,7 @@ use Rattle.timing.specs.declared.Pair.{Pair}
 use Rattle.timing.specs.Rules.{time, Each, InRange}
 use Rattle.search.proofs.SearchLaws.{least-is-least, least-below, least-passes}
 use Rattle.free_laws.specs.Free.{common, freePeriod}
-use Rattle.free_laws.proofs.RuleList.{admissible→meets}
+use Rattle.free_laws.proofs.ConstraintList.{admissible→meets}
 use Rattle.free_laws.proofs.FreeLaws.{meets→works, period-least, common-pos}
 use Rattle.split_laws.specs.Split.{works, timings}
 use Rattle.plan_laws.specs.Plan.{twoWorks, twoPeriod, twoOffset}

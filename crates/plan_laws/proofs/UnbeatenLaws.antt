@@ -7,7 +7,7 @@ use Rattle.timing.specs.declared.Pair.{Pair}
 use Rattle.timing.specs.Rules.{Each, InRange}
 use Rattle.free_laws.specs.Free.{common, freePeriod, freeSchedule}
 use Rattle.free_laws.proofs.UnbeatenLaws.{free-unbeaten}
-use Rattle.split_laws.specs.Split.{timing, timings, works}
+use Rattle.split_laws.specs.Split.{timeOf, timings, works}
 use Rattle.plan_laws.specs.Plan.{twoPeriod, twoOffset, twoSplit, timingsOf, twoTimings}
 use Rattle.plan_laws.specs.Unbeaten.{UnbeatenTwo, Unbeaten}
 use Rattle.plan_laws.proofs.TwoLaws.{two-common, two-split, two-best, free-two}
@@ -22,7 +22,7 @@ module _ (n : ℕ) (ps : List Pair) where
   two-unbeaten =
       let x = two-split n ps in
       record {
-        size = rw shown (length-map (x .split) (timing (twoOffset n ps)) ∙ x .size);
+        size = rw shown (length-map (x .split) (timeOf (twoOffset n ps)) ∙ x .size);
         meets = rw shown (x .works);
         split = x .split;
         first = x .first;

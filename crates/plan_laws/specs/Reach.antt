@@ -35,7 +35,7 @@ abbrev pub behind : ℕ → Pair → List ℕ → ℕ
 behind top p W = min (reachOf W (p .capture)) (top - p .least)
 
 -- the pair takes neither any further
-pub record Closed (top : ℕ) (W : List ℕ) (p : Pair) : Type 0 where
+pub record ReachClosed (top : ℕ) (W : List ℕ) (p : Pair) : Type 0 where
   pub capture : ahead top p W ≤ reachOf W (p .capture)
   pub launch : behind top p W ≤ reachOf W (p .launch)
 
@@ -67,12 +67,12 @@ room top [] = 0
 room top (x ∷ W) = (top - x) + room top W
 
 -- nothing moved and D holds, or there is less to rise
-abbrev pub Told : Bool → ℕ → (List ℕ → Type 0) → List ℕ → List ℕ → Type 0
-Told false top D W W′ = (W′ ≡ W) × D W
-Told true top D W W′ = room top W′ < room top W
+abbrev pub ReachTold : Bool → ℕ → (List ℕ → Type 0) → List ℕ → List ℕ → Type 0
+ReachTold false top D W W′ = (W′ ≡ W) × D W
+ReachTold true top D W W′ = room top W′ < room top W
 
 -- from the reaches W to the reaches W′; D is what the step was to bring about
-pub record Step (top : ℕ) (ps : List Pair) (D : List ℕ → Type 0) (W W′ : List ℕ) (o : Bool) : Type 0 where
+pub record ReachStep (top : ℕ) (ps : List Pair) (D : List ℕ → Type 0) (W W′ : List ℕ) (o : Bool) : Type 0 where
   pub size : length W′ ≡ length W
   pub reaches : Reaches top ps W′
-  pub told : Told o top D W W′
+  pub told : ReachTold o top D W W′

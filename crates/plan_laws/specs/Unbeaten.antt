@@ -7,7 +7,7 @@ use lib.ListN.{length, getD}
 use Rattle.timing.specs.declared.Pair.{Pair}
 use Rattle.timing.specs.Rules.{admissible, Each}
 use Rattle.free_laws.specs.Unbeaten.{UnbeatenFree}
-use Rattle.split_laws.specs.Split.{timing, timings, found, firstSplit}
+use Rattle.split_laws.specs.Split.{timeOf, timings, found, firstSplit}
 
 -- the choice of a split for register r
 abbrev pub choiceOf : List Bool → ℕ → Bool
@@ -15,8 +15,8 @@ choiceOf c r = getD c r false
 
 -- both rules of a pair multiplied by u: period t / u, offset s / u
 pub record MeetsOver (u t s : ℕ) (c : List Bool) (p : Pair) : Type 0 where
-  pub setup : timing s (choiceOf c (p .launch)) + p .greatest * u ≤ timing s (choiceOf c (p .capture)) + t
-  pub hold : timing s (choiceOf c (p .capture)) ≤ timing s (choiceOf c (p .launch)) + p .least * u
+  pub setup : timeOf s (choiceOf c (p .launch)) + p .greatest * u ≤ timeOf s (choiceOf c (p .capture)) + t
+  pub hold : timeOf s (choiceOf c (p .capture)) ≤ timeOf s (choiceOf c (p .launch)) + p .least * u
 
 -- the split c works at period t / u and offset s / u
 abbrev pub WorksOver : ℕ → ℕ → ℕ → List Bool → List Pair → Type 0

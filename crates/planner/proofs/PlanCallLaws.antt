@@ -21,7 +21,7 @@ use Rattle.list_format.specs.declared.Verdict.the-variants.{Refused as ListRefu
 use Rattle.list_format.proofs.ListLaws.{refused→fault, accepted→none, none→accepted, pairs-in-range}
 use Rattle.free_laws.specs.Free.{common, freePeriod, freeSchedule}
 use Rattle.free_laws.proofs.FreeLaws.{period-pos}
-use Rattle.free_laws.specs.Rule.{Bound}
+use Rattle.free_laws.specs.Constraint.{Bound}
 use Rattle.free_laws.proofs.Bound.{bound-free}
 use Rattle.free_schedule.specs.FreeCall.{FreeIn}
 use Rattle.split_laws.specs.Split.{timings}
@@ -33,7 +33,7 @@ use Rattle.plan_laws.proofs.UnbeatenLaws.{plan-unbeaten}
 use Rattle.checker.specs.Check.{Ready}
 use Rattle.reach.specs.Settling.{Reached}
 use Rattle.planner.specs.declared.Planning.the-variants.{Planned, Refused}
-use Rattle.planner.specs.PlanCall.{callChecks, planChecks, planning, planReply, PlanAs, Allowed, TwoIn}
+use Rattle.planner.specs.PlanCall.{planCallChecks, planChecks, planning, planReply, PlanAs, Allowed, TwoIn}
 
 -- ---- a refusal changes nothing
 
@@ -54,8 +54,8 @@ module _ (ws answer scratch : List ℕ) where
   list-refused v = kept (first-refused (listChecks ws) _ _ (refused→fault ws v))
 
   -- the list is accepted, and the caller's checks decide
-  module _ {n m : ℕ} (v : verdict ws ≡ Accepted n m) {f : Fault} (e : f ≡ firstFault (callChecks n m (length answer) (length scratch))) where
-    fault-is : f ≡ firstFault (callChecks (registers ws) (pairCount ws) (length answer) (length scratch))
+  module _ {n m : ℕ} (v : verdict ws ≡ Accepted n m) {f : Fault} (e : f ≡ firstFault (planCallChecks n m (length answer) (length scratch))) where
+    fault-is : f ≡ firstFault (planCallChecks (registers ws) (pairCount ws) (length answer) (length scratch))
     fault-is =
         let a = accepted→none ws v in
         rw (a .registersAre, a .pairsAre) at e
@@ -67,7 +67,7 @@ module _ (ws answer scratch : List ℕ) where
     pub call-allowed : f ≡ None → Allowed ws n m (length answer) (length scratch)
     call-allowed g =
         let a = accepted→none ws v in
-        let call = callChecks (registers ws) (pairCount ws) (length answer) (length scratch) in
+        let call = planCallChecks (registers ws) (pairCount ws) (length answer) (length scratch) in
         let p = passed call (sym fault-is ∙ g) in
         let h : 2 * registers ws ≤ length answer = ltb-false _ _ (p .0) in
         let k : scratchPlaces (registers ws) (pairCount ws) ≤ length scratch = ltb-false _ _ (p .1 .0) in

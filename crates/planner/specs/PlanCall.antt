@@ -17,15 +17,15 @@ use Rattle.planner.specs.declared.Planning.{Planning}
 use Rattle.planner.specs.declared.Planning.the-variants.{Planned, Refused}
 
 -- 2: an answer buffer of fewer than 2n places. 1: too little scratch
-abbrev pub callChecks : ℕ → ℕ → ℕ → ℕ → List Check
-callChecks n m room spare =
+abbrev pub planCallChecks : ℕ → ℕ → ℕ → ℕ → List Check
+planCallChecks n m room spare =
     (ltb room (2 * n), 2, 0)
     ∷ (ltb spare (scratchPlaces n m), 1, 0)
     ∷ []
 
 -- 11 to 17, then 2, 1
 abbrev pub planChecks : List ℕ → ℕ → ℕ → List Check
-planChecks ws room spare = listChecks ws ++ callChecks (registers ws) (pairCount ws) room spare
+planChecks ws room spare = listChecks ws ++ planCallChecks (registers ws) (pairCount ws) room spare
 
 -- three periods and the offset are returned; the free timings fill n places, the split's timings the next n
 unfoldable pub planning : List ℕ → ℕ → ℕ → Outcome

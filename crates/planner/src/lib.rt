@@ -3,7 +3,7 @@
 ghost use mathlib.Core.Path.{_≡_};
 ghost use lib.ListN.{length};
 ghost use Rattle.refusals.specs.Checks.{firstFault};
-ghost use Rattle.planner.specs.PlanCall.{callChecks, Allowed, TwoIn, PlanAs};
+ghost use Rattle.planner.specs.PlanCall.{planCallChecks, Allowed, TwoIn, PlanAs};
 ghost use Rattle.list_format.specs.Lists.{registers, pairs};
 ghost use Rattle.free_laws.specs.Free.{common as commonOf, freePeriod};
 use list_format::Verdict;
@@ -17,7 +17,7 @@ pub enum Planning {
 
 // The caller's checks: 2 for an answer buffer of fewer than 2n places, 1 for too little scratch.
 fn call_fault(n: u32, m: u32, room: usize, spare: usize) -> Fault
-    ensures { λ r. ⌜ r ≡ firstFault (callChecks n m room spare) ⌝ }
+    ensures { λ r. ⌜ r ≡ firstFault (planCallChecks n m room spare) ⌝ }
 {
     Fault::None
         .or(room < 2 * (n as usize), 2, 0)
@@ -48,7 +48,7 @@ fn show(words: &[u32], n: usize, m: usize, answer: &mut [u32], scratch: &mut [u3
     requires { ⌜ Allowed (now words) n m (length (now answer)) (length (now scratch)) ⌝ }
     ensures { λ r. ⌜ PlanAs (now (words .entry)) (now (answer .entry)) (now (answer .exit)) (now (scratch .entry)) (now (scratch .exit)) r ⌝ }
 {
-    let common = climb::common(words, m);
+    let common = free_climb::common(words, m);
     let free = free_schedule::fill(words, n, m, answer);
     let two = fill_split(words, n, m, common, free, answer, scratch);
     buffers::clear(scratch, 6 * n + 4 * m);

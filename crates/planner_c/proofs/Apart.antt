@@ -20,9 +20,9 @@ use Rattle.list_format.specs.Write.{writing, countChecks, givenChecks, givenBod
 use Rattle.checker.specs.Check.{checking, found, firstBroken, brokenRule}
 use Rattle.free_schedule.specs.FreeCall.{freeing}
 use Rattle.split_laws.specs.Split.{Found, firstSplit}
-use Rattle.split.specs.Splitting.{splitting, shown}
+use Rattle.split.specs.Splitting.{splitting, splitOutcome}
 use Rattle.planner.specs.PlanCall.{planning}
-use Rattle.planner_c.specs.Coded.{statusOf, counted, placesOf, Told}
+use Rattle.planner_c.specs.Coded.{statusOf, counted, placesOf, Coded}
 
 -- an answer that a status and five places can hold
 unfoldable pub Tellable : Reply → Type 0
@@ -40,7 +40,7 @@ same-values xs ys h e = ext-getD 0 xs ys (ap (λ (l : List ℕ). getD l 0 0) e) 
     places : (i : ℕ) → i < 4 → getD xs i 0 ≡ getD ys i 0
     places = below-more _ 3 (below-more _ 2 (below-more _ 1 (below-more _ 0 (below-none _) (at 1)) (at 2)) (at 3)) (at 4)
 
-pub told-apart : (a b : Reply) {r : ℕ} {reply : List ℕ} → Tellable a → Tellable b → Told a r reply → Told b r reply → a ≡ b
+pub told-apart : (a b : Reply) {r : ℕ} {reply : List ℕ} → Tellable a → Tellable b → Coded a r reply → Coded b r reply → a ≡ b
 unfolding statusOf placesOf Tellable
 told-apart (refusal n p) (refusal n′ p′) ha hb ta tb =
     ap (λ (k : ℕ). refusal k p) (sym (ta .status) ∙ tb .status) ∙ ap (λ (l : List ℕ). refusal n′ (getD l 1 0)) (sym (ta .places) ∙ tb .places)
@@ -120,8 +120,8 @@ pub free-told : (ws : List ℕ) (room : ℕ) → Tellable (replyOf (freeing ws r
 unfolding freeing numbered
 free-told ws room = list-then ws _ _ refl (done-told _ _ (omega arith))
 
-shown-told : (offset : ℕ) (f : Found) → Tellable (replyOf (shown offset f))
-unfolding shown
+shown-told : (offset : ℕ) (f : Found) → Tellable (replyOf (splitOutcome offset f))
+unfolding splitOutcome
 shown-told offset Found.nothing = done-told _ _ (omega arith)
 shown-told offset (Found.found c) = done-told _ _ (omega arith)
 

@@ -20,6 +20,6 @@ placesOf (refusal number place) = counted (place ∷ [])
 placesOf (numbers xs) = counted xs
 
 -- a caller was told an answer by these numbers
-pub record Told (answer : Reply) (r : ℕ) (reply : List ℕ) : Type 0 where
+pub record Coded (answer : Reply) (r : ℕ) (reply : List ℕ) : Type 0 where
   pub status : r ≡ statusOf answer
   pub places : reply ≡ placesOf answer

@@ -13,9 +13,9 @@ ghost use Rattle.checker.specs.Check.{checking, ruleNumber};
 ghost use Rattle.free_schedule.specs.FreeCall.{freeing};
 ghost use Rattle.split.specs.Splitting.{splitting};
 ghost use Rattle.planner.specs.PlanCall.{planning};
-ghost use Rattle.pieces.specs.Pieces.{Put};
+ghost use Rattle.text_pieces.specs.Pieces.{Put};
 ghost use Rattle.report.specs.Report.{textPlaces, report};
-ghost use Rattle.planner_c.specs.Coded.{Told};
+ghost use Rattle.planner_c.specs.Coded.{Coded};
 use checker::Checking;
 use checker::Rule;
 use free_schedule::FreeAnswer;
@@ -62,7 +62,7 @@ pub extern "C" fn darnerflax_read(
     answer: &mut [u32],
     reply: &mut [u64; REPLY_PLACES],
 ) -> u32
-    ensures told { λ r. ⌜ Told (replyOf (reading (now (words .entry)) (length (now (answer .entry))))) r (now (reply .exit)) ⌝ }
+    ensures told { λ r. ⌜ Coded (replyOf (reading (now (words .entry)) (length (now (answer .entry))))) r (now (reply .exit)) ⌝ }
     ensures stored { λ _. ⌜ now (answer .exit) ≡ bufferAfter (reading (now (words .entry)) (length (now (answer .entry)))) (now (answer .entry)) ⌝ }
 {
     match read_list::read(words, answer) {
@@ -79,7 +79,7 @@ pub extern "C" fn darnerflax_write(
     answer: &mut [u32],
     reply: &mut [u64; REPLY_PLACES],
 ) -> u32
-    ensures told { λ r. ⌜ Told (replyOf (writing n (now (numbers .entry)) (length (now (answer .entry))))) r (now (reply .exit)) ⌝ }
+    ensures told { λ r. ⌜ Coded (replyOf (writing n (now (numbers .entry)) (length (now (answer .entry))))) r (now (reply .exit)) ⌝ }
     ensures stored { λ _. ⌜ now (answer .exit) ≡ bufferAfter (writing n (now (numbers .entry)) (length (now (answer .entry)))) (now (answer .entry)) ⌝ }
 {
     match write_list::write(n, numbers, answer) {
@@ -96,7 +96,7 @@ pub extern "C" fn darnerflax_check(
     timings: &[u32],
     reply: &mut [u64; REPLY_PLACES],
 ) -> u32
-    ensures told { λ r. ⌜ Told (replyOf (checking (now (words .entry)) period (now (timings .entry)))) r (now (reply .exit)) ⌝ }
+    ensures told { λ r. ⌜ Coded (replyOf (checking (now (words .entry)) period (now (timings .entry)))) r (now (reply .exit)) ⌝ }
 {
     match checker::check(words, period, timings) {
         Checking::Refused(number, place) => refuse(reply, number, place),
@@ -112,7 +112,7 @@ pub extern "C" fn darnerflax_free(
     answer: &mut [u32],
     reply: &mut [u64; REPLY_PLACES],
 ) -> u32
-    ensures told { λ r. ⌜ Told (replyOf (freeing (now (words .entry)) (length (now (answer .entry))))) r (now (reply .exit)) ⌝ }
+    ensures told { λ r. ⌜ Coded (replyOf (freeing (now (words .entry)) (length (now (answer .entry))))) r (now (reply .exit)) ⌝ }
     ensures stored { λ _. ⌜ now (answer .exit) ≡ bufferAfter (freeing (now (words .entry)) (length (now (answer .entry)))) (now (answer .entry)) ⌝ }
 {
     match free_schedule::free(words, answer) {
@@ -131,7 +131,7 @@ pub extern "C" fn darnerflax_split(
     scratch: &mut [u32],
     reply: &mut [u64; REPLY_PLACES],
 ) -> u32
-    ensures told { λ r. ⌜ Told (replyOf (splitting (now (words .entry)) period offset (length (now (answer .entry))) (length (now (scratch .entry))))) r (now (reply .exit)) ⌝ }
+    ensures told { λ r. ⌜ Coded (replyOf (splitting (now (words .entry)) period offset (length (now (answer .entry))) (length (now (scratch .entry))))) r (now (reply .exit)) ⌝ }
     ensures stored { λ _. ⌜ now (answer .exit) ≡ bufferAfter (splitting (now (words .entry)) period offset (length (now (answer .entry))) (length (now (scratch .entry)))) (now (answer .entry)) ⌝ }
     ensures left { λ _. ⌜ now (scratch .exit) ≡ scratchAfter (splitting (now (words .entry)) period offset (length (now (answer .entry))) (length (now (scratch .entry)))) (scratchPlaces (registers (now (words .entry))) (pairCount (now (words .entry)))) (now (scratch .entry)) ⌝ }
 {
@@ -151,7 +151,7 @@ pub extern "C" fn darnerflax_plan(
     scratch: &mut [u32],
     reply: &mut [u64; REPLY_PLACES],
 ) -> u32
-    ensures told { λ r. ⌜ Told (replyOf (planning (now (words .entry)) (length (now (answer .entry))) (length (now (scratch .entry))))) r (now (reply .exit)) ⌝ }
+    ensures told { λ r. ⌜ Coded (replyOf (planning (now (words .entry)) (length (now (answer .entry))) (length (now (scratch .entry))))) r (now (reply .exit)) ⌝ }
     ensures stored { λ _. ⌜ now (answer .exit) ≡ bufferAfter (planning (now (words .entry)) (length (now (answer .entry))) (length (now (scratch .entry)))) (now (answer .entry)) ⌝ }
     ensures left { λ _. ⌜ now (scratch .exit) ≡ scratchAfter (planning (now (words .entry)) (length (now (answer .entry))) (length (now (scratch .entry)))) (scratchPlaces (registers (now (words .entry))) (pairCount (now (words .entry)))) (now (scratch .entry)) ⌝ }
 {

@@ -12,7 +12,7 @@ use Rattle.buffers.specs.Over.{over}
 use Rattle.list_format.specs.Lists.{pairCount, pairs}
 use Rattle.list_format.proofs.ListLaws.{each-pair}
 use Rattle.split_laws.specs.Split.{works, firstSplit}
-use Rattle.split_laws.specs.Marks.{Agrees, splitOf, Closed}
+use Rattle.split_laws.specs.Marks.{Agrees, splitOf, MarksClosed}
 use Rattle.split_laws.proofs.ClosureLaws.{first-none, first-found}
 use Rattle.propagate.specs.Store.{flagsTo, Lent, Prepared, Decided, chosen}
 use Rattle.propagate.specs.Passes.{Working, Propagated}
@@ -63,7 +63,7 @@ module _ (t s : ℕ) (ws : List ℕ) (n : ℕ) where
 
     first-is : (r : Bool) → Propagated ws n S₁ S₂ r → firstSplit n t s (pairs ws) ≡ chosen r (splitOf (take n S₂))
     first-is true h =
-        first-found n t s (pairs ws) (take n S₂) (size h) (each-pair ws (λ p. Closed t s p (take n S₂)) (λ k l. h .said k l t s (start .flags)))
+        first-found n t s (pairs ws) (take n S₂) (size h) (each-pair ws (λ p. MarksClosed t s p (take n S₂)) (λ k l. h .said k l t s (start .flags)))
         (λ c w. h .carried .kept .sound c (working c w) (blank c))
     first-is false h = first-none n t s (pairs ws) (λ c w. h .said c (working c w) (blank c))
 

@@ -15,7 +15,7 @@ use Rattle.list_format.proofs.ListLaws.{pair-holds, each-place}
 use Rattle.split_laws.specs.declared.Change.{Change}
 use Rattle.split_laws.specs.declared.Change.the-variants.{Settled, Changed, Clash}
 use Rattle.split_laws.specs.Split.{works}
-use Rattle.split_laws.specs.Marks.{unset, Told, Step, joined, Flagged, keeps, Settles}
+use Rattle.split_laws.specs.Marks.{unset, MarkTold, MarkStep, joined, Flagged, keeps, Settles}
 use Rattle.split_laws.proofs.MarkLaws.{kept-none, kept-then, step-none, step-then, step-with, step-as}
 use Rattle.split_laws.proofs.ClosureLaws.{works-each}
 use Rattle.propagate.specs.Store.{fourAt, Recorded}
@@ -26,8 +26,8 @@ works-at : (t s : ℕ) (ws : List ℕ) (c : List Bool) (k : ℕ) → works t s (
 works-at t s ws c k w l = pair-holds ws (λ p. keeps t s p c ≡ true) (works-each t s c (pairs ws) w) k l
 
 -- the first i pairs, in that order, force nothing more
-abbrev pub ClosedTo : List ℕ → Bool → ℕ → List ℕ → List ℕ → Type 0
-ClosedTo ws down i F M = (j : ℕ) → j < i → PairClosed ws (placeOf (pairCount ws) down j) F M
+abbrev pub MarksClosedTo : List ℕ → Bool → ℕ → List ℕ → List ℕ → Type 0
+MarksClosedTo ws down i F M = (j : ℕ) → j < i → PairClosed ws (placeOf (pairCount ws) down j) F M
 
 module _ (ws : List ℕ) (n : ℕ) where
   -- ---- passes
@@ -40,8 +40,8 @@ module _ (ws : List ℕ) (n : ℕ) where
 
   -- a later pass, with the flags of the first
   later : {D : List ℕ → List ℕ → Type 0} (S : List ℕ) {S′ S″ : List ℕ} {o : Change} → drop n S′ ≡ drop n S → Pass ws n D S′ S″ o
-      → Step (Working ws (drop (6 * n) S)) (D (drop (6 * n) S)) (take n S′) (take n S″) o
-  later {D} S {S′} {S″} {o} e h = subst (λ (F : List ℕ). Step (Working ws F) (D F) (take n S′) (take n S″) o) (drop-further n (6 * n) S S′ (omega arith) e) (h .step)
+      → MarkStep (Working ws (drop (6 * n) S)) (D (drop (6 * n) S)) (take n S′) (take n S″) o
+  later {D} S {S′} {S″} {o} e h = subst (λ (F : List ℕ). MarkStep (Working ws F) (D F) (take n S′) (take n S″) o) (drop-further n (6 * n) S S′ (omega arith) e) (h .step)
 
   pub pass-then : {C D : List ℕ → List ℕ → Type 0} {S S′ S″ : List ℕ} {o o′ o″ : Change} → o″ ≡ joined o o′ → Pass ws n C S S′ o → Pass ws n D S′ S″ o′
       → Pass ws n (λ F M. C F M × D F M) S S″ o″
@@ -76,14 +76,14 @@ module _ (ws : List ℕ) (n : ℕ) where
 
   -- ---- all pairs, in either direction
 
-  pub sweep-start : (down : Bool) (S : List ℕ) → Pass ws n (ClosedTo ws down 0) S S Settled
+  pub sweep-start : (down : Bool) (S : List ℕ) → Pass ws n (MarksClosedTo ws down 0) S S Settled
   sweep-start down S = pass-none S (λ j l. absurd (omega arith))
 
   pub sweep-turn : (down : Bool) (i : ℕ) {at : ℕ} {S S′ S″ : List ℕ} {o o′ o″ : Change} → at ≡ placeOf (pairCount ws) down i → o″ ≡ joined o o′
-      → Pass ws n (ClosedTo ws down i) S S′ o → Pass ws n (PairClosed ws at) S′ S″ o′ → Pass ws n (ClosedTo ws down (i + 1)) S S″ o″
+      → Pass ws n (MarksClosedTo ws down i) S S′ o → Pass ws n (PairClosed ws at) S′ S″ o′ → Pass ws n (MarksClosedTo ws down (i + 1)) S S″ o″
   sweep-turn down i ea e h k = pass-with (λ F M x. below-more _ i (x .0) (rw ea at (x .1))) (pass-then e h k)
 
-  pub sweep-end : (down : Bool) {S S′ : List ℕ} {o : Change} → Pass ws n (ClosedTo ws down (pairCount ws)) S S′ o → Pass ws n (AllClosed ws) S S′ o
+  pub sweep-end : (down : Bool) {S S′ : List ℕ} {o : Change} → Pass ws n (MarksClosedTo ws down (pairCount ws)) S S′ o → Pass ws n (AllClosed ws) S S′ o
   sweep-end down = pass-with (λ F M x. each-place (λ k. PairClosed ws k F M) (pairCount ws) down x)
 
   -- ---- until nothing changes
@@ -95,7 +95,7 @@ module _ (ws : List ℕ) (n : ℕ) where
     pub carried-turn : Carried ws n S S″
     carried-turn = record { size = h .size ∙ c .size; rest = h .rest ∙ c .rest; kept = kept-then (c .kept) (later S (c .rest) h .kept) }
 
-    told-as : (x : Change) → o ≡ x → Told x (Working ws (drop (6 * n) S)) (C (drop (6 * n) S)) (take n S′) (take n S″)
+    told-as : (x : Change) → o ≡ x → MarkTold x (Working ws (drop (6 * n) S)) (C (drop (6 * n) S)) (take n S′) (take n S″)
     told-as x e = rw e at (later S (c .rest) h .told)
 
     pub carried-fewer : o ≡ Changed → unset (take n S″) < unset (take n S′)

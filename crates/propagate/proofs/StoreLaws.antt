@@ -9,7 +9,7 @@ use Rattle.buffers.specs.Run.{run}
 use Rattle.buffers.specs.Over.{over}
 use Rattle.buffers.proofs.RunLaws.{run-length, run-at}
 use Rattle.list_format.specs.Lists.{pairCount, pairAt}
-use Rattle.split_laws.specs.Split.{timing, timings}
+use Rattle.split_laws.specs.Split.{timeOf, timings}
 use Rattle.split_laws.specs.Table.{isLate, flagAt}
 use Rattle.split_laws.specs.Marks.{splitOf, Flagged}
 use Rattle.split_laws.proofs.ClosureLaws.{time-of, length-splitOf, getD-splitOf}
@@ -71,18 +71,18 @@ brought-back cut fs S F e = rw (none, append-nil, e, lent cut S, drop-drop)
 
 -- ---- the split that the marks give, as timings
 
-pub timings-run : (s n : ℕ) (M : List ℕ) → n ≤ length M → run (λ k. timing s (isLate (getD M k 0)) ∷ []) n ≡ timings s (splitOf (take n M))
+pub timings-run : (s n : ℕ) (M : List ℕ) → n ≤ length M → run (λ k. timeOf s (isLate (getD M k 0)) ∷ []) n ≡ timings s (splitOf (take n M))
 timings-run s n M h = ext-getD 0 _ _ (size ∙ sym sizes) each
   where
-    size : length (run (λ k. timing s (isLate (getD M k 0)) ∷ []) n) ≡ n
+    size : length (run (λ k. timeOf s (isLate (getD M k 0)) ∷ []) n) ≡ n
     size = run-length _ 1 (λ k. refl) n ∙ omega arith
 
     sizes : length (timings s (splitOf (take n M))) ≡ n
-    sizes = length-map (splitOf (take n M)) (timing s) ∙ length-splitOf (take n M) ∙ length-take-le n M h
+    sizes = length-map (splitOf (take n M)) (timeOf s) ∙ length-splitOf (take n M) ∙ length-take-le n M h
 
-    each : (i : ℕ) → i < length (run (λ k. timing s (isLate (getD M k 0)) ∷ []) n) → getD (run (λ k. timing s (isLate (getD M k 0)) ∷ []) n) i 0 ≡ getD (timings s (splitOf (take n M))) i 0
+    each : (i : ℕ) → i < length (run (λ k. timeOf s (isLate (getD M k 0)) ∷ []) n) → getD (run (λ k. timeOf s (isLate (getD M k 0)) ∷ []) n) i 0 ≡ getD (timings s (splitOf (take n M))) i 0
     each i l =
         let below : i < n = omega (arith, size) in
         let e : 1 * i + 0 ≡ i = omega arith in
-        (rw e at (run-at (λ k. timing s (isLate (getD M k 0)) ∷ []) 1 (λ k. refl) n i 0 below (omega arith)))
-        ∙ sym (time-of s (splitOf (take n M)) i ∙ ap (timing s) (getD-splitOf (take n M) i ∙ ap isLate (getD-take n M i 0 below)))
+        (rw e at (run-at (λ k. timeOf s (isLate (getD M k 0)) ∷ []) 1 (λ k. refl) n i 0 below (omega arith)))
+        ∙ sym (time-of s (splitOf (take n M)) i ∙ ap (timeOf s) (getD-splitOf (take n M) i ∙ ap isLate (getD-take n M i 0 below)))

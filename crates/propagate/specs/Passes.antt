@@ -8,7 +8,7 @@ use lib.ListN.{length, take, drop}
 use Rattle.list_format.specs.Lists.{pairCount, pairAt, pairs}
 use Rattle.split_laws.specs.declared.Change.{Change}
 use Rattle.split_laws.specs.Split.{works}
-use Rattle.split_laws.specs.Marks.{Agrees, Kept, Step, Closed}
+use Rattle.split_laws.specs.Marks.{Agrees, Kept, MarkStep, MarksClosed}
 use Rattle.propagate.specs.Store.{Recorded}
 
 -- the split works at a period and an offset whose flags stand in F
@@ -22,11 +22,11 @@ pub record Working (ws F : List ℕ) (c : List Bool) : Type 0 where
 pub record Pass (ws : List ℕ) (n : ℕ) (C : List ℕ → List ℕ → Type 0) (S S′ : List ℕ) (o : Change) : Type 0 where
   pub size : length S′ ≡ length S
   pub rest : drop n S′ ≡ drop n S
-  pub step : Step (Working ws (drop (6 * n) S)) (C (drop (6 * n) S)) (take n S) (take n S′) o
+  pub step : MarkStep (Working ws (drop (6 * n) S)) (C (drop (6 * n) S)) (take n S) (take n S′) o
 
 -- pair k forces nothing more
 abbrev pub PairClosed : List ℕ → ℕ → List ℕ → List ℕ → Type 0
-PairClosed ws k F M = (t s : ℕ) → Recorded t s ws F → Closed t s (pairAt ws k) M
+PairClosed ws k F M = (t s : ℕ) → Recorded t s ws F → MarksClosed t s (pairAt ws k) M
 
 -- no pair forces more
 abbrev pub AllClosed : List ℕ → List ℕ → List ℕ → Type 0

@@ -16,25 +16,25 @@ use Rattle.timing.specs.Limits.{maxDelay}
 use Rattle.list_format.specs.Lists.{registers, pairCount, pairAt, pairsFrom, pairs, placeOf, IsPair}
 use Rattle.list_format.proofs.ListLaws.{each-pair, pairs-within, pair-holds, each-place}
 use Rattle.free_laws.specs.Free.{common}
-use Rattle.free_laws.specs.Rule.{Bound}
+use Rattle.free_laws.specs.Constraint.{Bound}
 use Rattle.free_laws.proofs.Bound.{bound-common}
 use Rattle.free_laws.proofs.FreeLaws.{common-limit}
-use Rattle.split_laws.specs.Split.{timing, timings}
+use Rattle.split_laws.specs.Split.{timeOf, timings}
 use Rattle.split_laws.proofs.ClosureLaws.{time-of}
 use Rattle.plan_laws.specs.Plan.{twoPeriod}
-use Rattle.plan_laws.specs.Reach.{reachOf, Closed, reachPeriod, lateAbove, ahead, behind, Raised, room, Told, Step}
+use Rattle.plan_laws.specs.Reach.{reachOf, ReachClosed, reachPeriod, lateAbove, ahead, behind, Raised, room, ReachTold, ReachStep}
 use Rattle.plan_laws.proofs.OffsetLaws.{below-common}
 use Rattle.plan_laws.proofs.ReachLaws.{PairOf, pairs-of, period-from, length-late, late-at, reaches-level}
 use Rattle.plan_laws.proofs.StepLaws.{step-none, step-then, step-with, pair-step}
 use Rattle.plan_laws.proofs.ReachTwo.{period-is, timings-are}
 use Rattle.checker.specs.Check.{Ready}
-use Rattle.reach.specs.Settling.{Raisable, Reaching, ClosedAt, ClosedAll, Settled, Reached}
+use Rattle.reach.specs.Settling.{PairReaching, Reaching, ClosedAt, ClosedAll, Swept, Reached}
 
 -- ---- one pair
 
 module _ {ws : List ℕ} {count top : ℕ} {W : List ℕ} (r : Reaching ws count top W) where
   -- the same list with other reaches
-  pub reaching-then : {D : List ℕ → Type 0} {W′ : List ℕ} {o : Bool} → Step top (pairs ws) D W W′ o → Reaching ws count top W′
+  pub reaching-then : {D : List ℕ → Type 0} {W′ : List ℕ} {o : Bool} → ReachStep top (pairs ws) D W W′ o → Reaching ws count top W′
   reaching-then h =
       record {
         ready = record { accepted = r .ready .accepted; counted = r .ready .counted; timed = h .size ∙ r .ready .timed };
@@ -48,7 +48,7 @@ module _ {ws : List ℕ} {count top : ℕ} {W : List ℕ} (r : Reaching ws count
         rw (is .same)
         (pair-holds ws (PairOf top (pairs ws)) (pairs-of top (pairs ws) (below-common (pairs ws) top (omega (arith, r .topIs)))) k h)
 
-    pub pair-raisable : Raisable p top W
+    pub pair-raisable : PairReaching p top W
     pair-raisable =
         record {
           inside = record { launch = rw (r .ready .timed) (is .launch); capture = rw (r .ready .timed) (is .capture) };
@@ -59,31 +59,31 @@ module _ {ws : List ℕ} {count top : ℕ} {W : List ℕ} (r : Reaching ws count
 
     -- both its ends raised
     pub pair-stepped : {M W′ : List ℕ} {x y o : Bool} → Raised (p .capture) (ahead top p W) W M x → Raised (p .launch) (behind top p M) M W′ y → o ≡ (x || y)
-        → Step top (pairs ws) (ClosedAt ws top k) W W′ o
+        → ReachStep top (pairs ws) (ClosedAt ws top k) W W′ o
     pair-stepped a b e =
-        step-with (λ d. subst (λ (q : Pair). Closed top W q) (is .same) d) (pair-step pair-of (pair-raisable .inside) (r .reaches) a b e)
+        step-with (λ d. subst (λ (q : Pair). ReachClosed top W q) (is .same) d) (pair-step pair-of (pair-raisable .inside) (r .reaches) a b e)
 
-pub raisable-kept : {p : Pair} {top : ℕ} {W W′ : List ℕ} → Raisable p top W → length W′ ≡ length W → Raisable p top W′
+pub raisable-kept : {p : Pair} {top : ℕ} {W W′ : List ℕ} → PairReaching p top W → length W′ ≡ length W → PairReaching p top W′
 raisable-kept a e =
     record { inside = record { launch = rw e (a .inside .launch); capture = rw e (a .inside .capture) }; order = a .order; under = a .under; limit = a .limit }
 
 -- ---- sweeps
 
 -- the pairs at the first i places of a walk raise no reach further
-abbrev pub ClosedTo : List ℕ → ℕ → Bool → ℕ → List ℕ → Type 0
-ClosedTo ws top down i W = (j : ℕ) → j < i → ClosedAt ws top (placeOf (pairCount ws) down j) W
+abbrev pub ReachClosedTo : List ℕ → ℕ → Bool → ℕ → List ℕ → Type 0
+ReachClosedTo ws top down i W = (j : ℕ) → j < i → ClosedAt ws top (placeOf (pairCount ws) down j) W
 
 -- i turns of a sweep
 pub record Sweeping (ws : List ℕ) (count top : ℕ) (down : Bool) (W W′ : List ℕ) (moved : Bool) (i : ℕ) : Type 0 where
   pub bound : i ≤ count
-  pub step : Step top (pairs ws) (ClosedTo ws top down i) W W′ moved
+  pub step : ReachStep top (pairs ws) (ReachClosedTo ws top down i) W W′ moved
 
 module _ {ws : List ℕ} {count top : ℕ} {W : List ℕ} (r : Reaching ws count top W) where
   pub sweeping-start : (down : Bool) → Sweeping ws count top down W W false 0
   sweeping-start down = record { bound = zero-le; step = step-none (r .reaches) (λ j l. absurd (omega arith)) }
 
   module _ {down : Bool} {W′ : List ℕ} {moved : Bool} {i : ℕ} (s : Sweeping ws count top down W W′ moved i) where
-    pub sweeping-turn : {k : ℕ} {W″ : List ℕ} {o moved′ : Bool} → i < count → k ≡ placeOf count down i → Step top (pairs ws) (ClosedAt ws top k) W′ W″ o → moved′ ≡ (moved || o)
+    pub sweeping-turn : {k : ℕ} {W″ : List ℕ} {o moved′ : Bool} → i < count → k ≡ placeOf count down i → ReachStep top (pairs ws) (ClosedAt ws top k) W′ W″ o → moved′ ≡ (moved || o)
         → Sweeping ws count top down W W″ moved′ (i + 1)
     sweeping-turn {k} l at h e =
         let place : k ≡ placeOf (pairCount ws) down i = at ∙ ap (λ m. placeOf m down i) (r .ready .counted) in
@@ -92,22 +92,22 @@ module _ {ws : List ℕ} {count top : ℕ} {W : List ℕ} (r : Reaching ws count
           step = step-with (λ d. below-more (λ j. ClosedAt ws top (placeOf (pairCount ws) down j) W) i (d .0) (rw place at (d .1))) (step-then e (s .step) h);
         }
 
-    pub sweeping-end : count ≤ i → Step top (pairs ws) (ClosedAll ws top) W W′ moved
+    pub sweeping-end : count ≤ i → ReachStep top (pairs ws) (ClosedAll ws top) W W′ moved
     sweeping-end l = step-with (λ d. each-place (λ k. ClosedAt ws top k W) (pairCount ws) down (λ j h. d j (omega (arith, r .ready .counted)))) (s .step)
 
   -- a sweep that raised nothing
-  pub swept : {W′ : List ℕ} {o : Bool} → Step top (pairs ws) (ClosedAll ws top) W W′ o → o ≡ false → Settled ws count top W′
+  pub swept : {W′ : List ℕ} {o : Bool} → ReachStep top (pairs ws) (ClosedAll ws top) W W′ o → o ≡ false → Swept ws count top W′
   swept {W′} {o} h e = record { reaching = reaching-then r h; closed = go o e (h .told) }
     where
-      go : (o : Bool) → o ≡ false → Told o top (ClosedAll ws top) W W′ → ClosedAll ws top W′
+      go : (o : Bool) → o ≡ false → ReachTold o top (ClosedAll ws top) W W′ → ClosedAll ws top W′
       go false e x = rw (x .0) (x .1)
       go true e x = absurd (true≢false e)
 
 -- a sweep that raised something leaves less to rise
-pub sweep-less : {top : ℕ} {ps : List Pair} {D : List ℕ → Type 0} {W W′ : List ℕ} {o : Bool} → Step top ps D W W′ o → o ≡ true → room top W′ < room top W
+pub sweep-less : {top : ℕ} {ps : List Pair} {D : List ℕ → Type 0} {W W′ : List ℕ} {o : Bool} → ReachStep top ps D W W′ o → o ≡ true → room top W′ < room top W
 sweep-less {top} {ps} {D} {W} {W′} {o} h e = go o e (h .told)
   where
-    go : (o : Bool) → o ≡ true → Told o top D W W′ → room top W′ < room top W
+    go : (o : Bool) → o ≡ true → ReachTold o top D W W′ → room top W′ < room top W
     go true e x = x
     go false e x = absurd (true≢false (sym e))
 
@@ -153,11 +153,11 @@ module _ {ws : List ℕ} {count top : ℕ} (floor : ℕ) {W : List ℕ} (ready :
       level : W′ ≡ replicate (length W) floor
       level = levelled ∙ rw (drop-of-length-le W {i = length W} (le-refl _), append-nil)
 
-pub reached : {ws : List ℕ} {count top : ℕ} {W : List ℕ} {two : ℕ} → Settled ws count top W → two ≡ reachPeriod 1 (pairs ws) W → Reached ws W two
+pub reached : {ws : List ℕ} {count top : ℕ} {W : List ℕ} {two : ℕ} → Swept ws count top W → two ≡ reachPeriod 1 (pairs ws) W → Reached ws W two
 reached {ws} {count} {top} {W} {two} s e =
     let r = s .reaching in
     let reaches = rw (r .topIs) at (r .reaches) in
-    let closed = each-pair ws (Closed (common (pairs ws)) W) (λ k h. rw (r .topIs) at (s .closed k h)) in
+    let closed = each-pair ws (ReachClosed (common (pairs ws)) W) (λ k h. rw (r .topIs) at (s .closed k h)) in
     let period : two ≡ twoPeriod (registers ws) (pairs ws) = e ∙ period-is (registers ws) (pairs ws) W (r .ready .timed) reaches closed in
     record { period = period; split = rw period (timings-are (registers ws) (pairs ws) W (r .ready .timed) reaches closed); size = r .ready .timed }
 
@@ -165,7 +165,7 @@ reached {ws} {count} {top} {W} {two} s e =
 
 -- the timing of register k
 abbrev pub times : ℕ → ℕ → List ℕ → ℕ → List ℕ
-times s two W k = timing s (ltb two (getD W k 0)) ∷ []
+times s two W k = timeOf s (ltb two (getD W k 0)) ∷ []
 
 pub split-run : (s two n : ℕ) (W : List ℕ) → n ≤ length W → run (times s two W) n ≡ timings s (lateAbove two (take n W))
 split-run s two n W h = ext-getD 0 _ _ (size ∙ sym sizes) each
@@ -174,11 +174,11 @@ split-run s two n W h = ext-getD 0 _ _ (size ∙ sym sizes) each
     size = run-length (times s two W) 1 (λ k. refl) n ∙ omega arith
 
     sizes : length (timings s (lateAbove two (take n W))) ≡ n
-    sizes = length-map (lateAbove two (take n W)) (timing s) ∙ length-late two (take n W) ∙ length-take-le n W h
+    sizes = length-map (lateAbove two (take n W)) (timeOf s) ∙ length-late two (take n W) ∙ length-take-le n W h
 
     each : (i : ℕ) → i < length (run (times s two W) n) → getD (run (times s two W) n) i 0 ≡ getD (timings s (lateAbove two (take n W))) i 0
     each i l =
         let inside : i < n = omega (arith, size) in
         let e : 1 * i + 0 ≡ i = omega arith in
         (rw e at (run-at (times s two W) 1 (λ k. refl) n i 0 inside (omega arith)))
-        ∙ sym (time-of s (lateAbove two (take n W)) i ∙ ap (timing s) (late-at two (take n W) i ∙ ap (ltb two) (getD-take n W i 0 inside)))
+        ∙ sym (time-of s (lateAbove two (take n W)) i ∙ ap (timeOf s) (late-at two (take n W) i ∙ ap (ltb two) (getD-take n W i 0 inside)))

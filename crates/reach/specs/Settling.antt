@@ -10,11 +10,11 @@ use Rattle.list_format.specs.Lists.{registers, pairCount, pairAt, pairs}
 use Rattle.free_laws.specs.Free.{common}
 use Rattle.split_laws.specs.Split.{timings}
 use Rattle.plan_laws.specs.Plan.{twoPeriod, twoOffset, twoTimings}
-use Rattle.plan_laws.specs.Reach.{Reaches, Closed, lateAbove}
+use Rattle.plan_laws.specs.Reach.{Reaches, ReachClosed, lateAbove}
 use Rattle.checker.specs.Check.{Ready}
 
 -- a pair with a reach for each of its registers, and delays no more than top
-pub record Raisable (p : Pair) (top : ℕ) (W : List ℕ) : Type 0 where
+pub record PairReaching (p : Pair) (top : ℕ) (W : List ℕ) : Type 0 where
   pub inside : InRange (length W) p
   pub order : p .least ≤ top
   pub under : p .greatest ≤ top
@@ -28,14 +28,14 @@ pub record Reaching (ws : List ℕ) (count top : ℕ) (W : List ℕ) : Type 0 wh
 
 -- pair k raises no reach further
 abbrev pub ClosedAt : List ℕ → ℕ → ℕ → List ℕ → Type 0
-ClosedAt ws top k W = Closed top W (pairAt ws k)
+ClosedAt ws top k W = ReachClosed top W (pairAt ws k)
 
 -- no pair does
 abbrev pub ClosedAll : List ℕ → ℕ → List ℕ → Type 0
 ClosedAll ws top W = (k : ℕ) → k < pairCount ws → ClosedAt ws top k W
 
 -- reaches that rise no further
-pub record Settled (ws : List ℕ) (count top : ℕ) (W : List ℕ) : Type 0 where
+pub record Swept (ws : List ℕ) (count top : ℕ) (W : List ℕ) : Type 0 where
   pub reaching : Reaching ws count top W
   pub closed : ClosedAll ws top W
 

@@ -10,11 +10,11 @@ ghost use lib.ListN.{length, take};
 ghost use Rattle.buffers.specs.Over.{over};
 ghost use Rattle.list_format.specs.Lists.{pairs};
 ghost use Rattle.free_laws.specs.Free.{common};
-ghost use Rattle.free_laws.specs.Rule.{Bound};
-ghost use Rattle.split_laws.specs.Split.{timing as timingOf, timings};
-ghost use Rattle.plan_laws.specs.Reach.{reachOf, ahead, behind, reachPeriod, lateAbove, Raised, Step};
+ghost use Rattle.free_laws.specs.Constraint.{Bound};
+ghost use Rattle.split_laws.specs.Split.{timeOf, timings};
+ghost use Rattle.plan_laws.specs.Reach.{reachOf, ahead, behind, reachPeriod, lateAbove, Raised, ReachStep};
 ghost use Rattle.checker.specs.Check.{Ready};
-ghost use Rattle.reach.specs.Settling.{Raisable, Reaching, ClosedAt, ClosedAll, Settled, Reached};
+ghost use Rattle.reach.specs.Settling.{PairReaching, Reaching, ClosedAt, ClosedAll, Swept, Reached};
 use timing::Pair;
 use timing::larger;
 use timing::smaller;
@@ -39,7 +39,7 @@ fn raise(reach: &mut [u32], r: usize, v: u32) -> bool
 
 // Below its greatest delay a pair needs its capture late; below half of that and the common period, one with a late launch does.
 fn raise_capture(p: Pair, top: u32, reach: &mut [u32]) -> bool
-    requires { ⌜ Raisable p top (now reach) ⌝ }
+    requires { ⌜ PairReaching p top (now reach) ⌝ }
     ensures { λ o. ⌜ Raised (p .capture) (ahead top p (now (reach .entry))) (now (reach .entry)) (now (reach .exit)) o ⌝ }
 {
     let half = (top + p.greatest + 1) / 2;
@@ -49,7 +49,7 @@ fn raise_capture(p: Pair, top: u32, reach: &mut [u32]) -> bool
 
 // Below the common period less its least delay, a pair with a late capture needs its launch late.
 fn raise_launch(p: Pair, top: u32, reach: &mut [u32]) -> bool
-    requires { ⌜ Raisable p top (now reach) ⌝ }
+    requires { ⌜ PairReaching p top (now reach) ⌝ }
     ensures { λ o. ⌜ Raised (p .launch) (behind top p (now (reach .entry))) (now (reach .entry)) (now (reach .exit)) o ⌝ }
 {
     let v = smaller(reach[p.capture as usize], top - p.least);
@@ -59,7 +59,7 @@ fn raise_launch(p: Pair, top: u32, reach: &mut [u32]) -> bool
 // Both ends of pair k; whether one was raised.
 fn step(words: &[u32], count: usize, k: usize, top: u32, reach: &mut [u32]) -> bool
     requires { ⌜ Reaching (now words) count top (now reach) × (k < count) ⌝ }
-    ensures { λ o. ⌜ Step top (pairs (now (words .entry))) (ClosedAt (now (words .entry)) top k) (now (reach .entry)) (now (reach .exit)) o ⌝ }
+    ensures { λ o. ⌜ ReachStep top (pairs (now (words .entry))) (ClosedAt (now (words .entry)) top k) (now (reach .entry)) (now (reach .exit)) o ⌝ }
 {
     let p = delay_list::pair_at(words, k);
     let first = raise_capture(p, top, reach);
@@ -70,7 +70,7 @@ fn step(words: &[u32], count: usize, k: usize, top: u32, reach: &mut [u32]) -> b
 // One sweep, up or down the list; whether it raised anything.
 fn sweep(words: &[u32], count: usize, top: u32, down: bool, reach: &mut [u32]) -> bool
     requires { ⌜ Reaching (now words) count top (now reach) ⌝ }
-    ensures { λ o. ⌜ Step top (pairs (now (words .entry))) (ClosedAll (now (words .entry)) top) (now (reach .entry)) (now (reach .exit)) o ⌝ }
+    ensures { λ o. ⌜ ReachStep top (pairs (now (words .entry))) (ClosedAll (now (words .entry)) top) (now (reach .entry)) (now (reach .exit)) o ⌝ }
 {
     let mut moved = false;
     let mut i = 0;
@@ -86,7 +86,7 @@ fn sweep(words: &[u32], count: usize, top: u32, down: bool, reach: &mut [u32]) -
 // Sweeps up and down the list until nothing is raised.
 fn settle(words: &[u32], count: usize, top: u32, reach: &mut [u32])
     requires { ⌜ Reaching (now words) count top (now reach) ⌝ }
-    ensures { λ _. ⌜ Settled (now (words .entry)) count top (now (reach .exit)) ⌝ }
+    ensures { λ _. ⌜ Swept (now (words .entry)) count top (now (reach .exit)) ⌝ }
 {
     let mut down = false;
     loop {
@@ -134,7 +134,7 @@ pub fn two_period(words: &[u32], count: usize, top: u32, floor: u32, reach: &mut
 
 // The offset where the reach is above the period, else 0.
 fn time_of(offset: u32, two: u32, reach: u32) -> u32
-    ensures { λ r. ⌜ r ≡ timingOf offset (ltb two reach) ⌝ }
+    ensures { λ r. ⌜ r ≡ timeOf offset (ltb two reach) ⌝ }
 {
     if two < reach { offset } else { 0 }
 }

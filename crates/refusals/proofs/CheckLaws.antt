@@ -67,12 +67,12 @@ module _ (f : ℕ → List Check) (after : List Check) (m : ℕ) where
   left k = eachCheck f k (m - k) ++ after
 
   -- k of the m things have passed
-  pub record Walking (k : ℕ) : Type 0 where
+  pub record Remaining (k : ℕ) : Type 0 where
     pub bound : k ≤ m
     pub same : firstFault (eachCheck f 0 m ++ after) ≡ firstFault (left k)
 
-  pub walking-start : Walking 0
-  walking-start = record { bound = omega arith; same = rw sub-zero }
+  pub remaining-start : Remaining 0
+  remaining-start = record { bound = omega arith; same = rw sub-zero }
 
   one-more : (k : ℕ) → k < m → left k ≡ f k ++ left (k + 1)
   unfolding eachCheck
@@ -80,16 +80,16 @@ module _ (f : ℕ → List Check) (after : List Check) (m : ℕ) where
       let e : m - k ≡ suc (m - (k + 1)) = omega arith in
       rw e (append-assoc (f k) (eachCheck f (k + 1) (m - (k + 1))) after)
 
-  module _ {k : ℕ} (w : Walking k) where
-    pub walking-turn : k < m → firstFault (f k) ≡ None → Walking (k + 1)
-    walking-turn h e = record { bound = omega arith; same = w .same ∙ ap firstFault (one-more k h) ∙ pass-first (f k) (left (k + 1)) e }
+  module _ {k : ℕ} (w : Remaining k) where
+    pub remaining-turn : k < m → firstFault (f k) ≡ None → Remaining (k + 1)
+    remaining-turn h e = record { bound = omega arith; same = w .same ∙ ap firstFault (one-more k h) ∙ pass-first (f k) (left (k + 1)) e }
 
-    pub walking-stops : k < m → {number place : ℕ} → firstFault (f k) ≡ At number place → firstFault (eachCheck f 0 m ++ after) ≡ At number place
-    walking-stops h e = w .same ∙ ap firstFault (one-more k h) ∙ stop-first (f k) (left (k + 1)) e
+    pub remaining-stops : k < m → {number place : ℕ} → firstFault (f k) ≡ At number place → firstFault (eachCheck f 0 m ++ after) ≡ At number place
+    remaining-stops h e = w .same ∙ ap firstFault (one-more k h) ∙ stop-first (f k) (left (k + 1)) e
 
-    pub walking-end : m ≤ k → firstFault (eachCheck f 0 m ++ after) ≡ firstFault after
+    pub remaining-end : m ≤ k → firstFault (eachCheck f 0 m ++ after) ≡ firstFault after
     unfolding eachCheck
-    walking-end h =
+    remaining-end h =
         let z : m - k ≡ 0 = omega arith in
         w .same ∙ rw z
 

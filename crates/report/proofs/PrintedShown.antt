@@ -13,10 +13,10 @@ use Rattle.split_laws.specs.Split.{works, splits, firstOf, firstSplit}
 use Rattle.plan_laws.specs.Plan.{splitWorks, twoWorks, twoPeriod, twoOffset, twoSplit, twoTimings}
 use Rattle.planner.specs.PlanCall.{planning}
 use Rattle.list_bytes.specs.ListBytes.{listOf}
-use Rattle.pieces.specs.Pieces.{letters, decimalIn, decimal, refusedAt}
+use Rattle.text_pieces.specs.Pieces.{letters, decimalIn, decimal, refusedAt}
 use Rattle.report.specs.Report.{periodsLine, registerLines, report}
-use Rattle.report.specs.Printed.{table}
+use Rattle.report.specs.Printed.{printedTable}
 
-pub shown : map (λ p. report (p .bytes)) table ≡ map (λ p. letters (p .text)) table
-unfolding table admissible firstFrom least run total orCheck faultAfter eachCheck unless pairsFrom relax round rounds freeAt freeWorks common freePeriod freeSchedule works splits firstOf firstSplit splitWorks twoWorks twoPeriod twoOffset twoSplit twoTimings planning decimalIn decimal refusedAt periodsLine registerLines told listOf report
-shown = refl
+pub printed-shown : map (λ p. report (p .bytes)) printedTable ≡ map (λ p. letters (p .text)) printedTable
+unfolding printedTable admissible firstFrom least run total orCheck faultAfter eachCheck unless pairsFrom relax round rounds freeAt freeWorks common freePeriod freeSchedule works splits firstOf firstSplit splitWorks twoWorks twoPeriod twoOffset twoSplit twoTimings planning decimalIn decimal refusedAt periodsLine registerLines told listOf report
+printed-shown = refl

@@ -14,18 +14,18 @@ use Rattle.list_format.specs.Lists.{registers, pairCount, pairs, listChecks, Is
 use Rattle.list_format.proofs.ListLaws.{HeadIn, accepted→none, accepted-in, numbers-in}
 use Rattle.free_laws.specs.Free.{common, freePeriod, freeSchedule}
 use Rattle.plan_laws.specs.Plan.{twoPeriod, twoOffset, twoTimings}
-use Rattle.planner.specs.PlanCall.{callChecks, planning, planReply, PlanAs}
+use Rattle.planner.specs.PlanCall.{planCallChecks, planning, planReply, PlanAs}
 use Rattle.planner.specs.declared.Planning.{Planning}
 use Rattle.planner.specs.declared.Planning.the-variants.{Planned, Refused}
-use Rattle.pieces.specs.Pieces.{Put}
-use Rattle.pieces.proofs.PutLaws.{put-within}
-use Rattle.report.specs.Report.{lineOf, registerLines, planLines, refusalLine, textPlaces, planOf, report}
+use Rattle.text_pieces.specs.Pieces.{Put}
+use Rattle.text_pieces.proofs.PutLaws.{put-within}
+use Rattle.report.specs.Report.{planLine, registerLines, planLines, refusedLine, textPlaces, planOf, report}
 use Rattle.list_bytes.specs.ListBytes.{listOf}
 use Rattle.list_bytes.proofs.LoadLaws.{none-refused}
 
 plan-same : (n k : ℕ) (xs ys : List ℕ) → planLines n xs (over ys (zeros k)) ≡ planLines n xs ys
 unfolding registerLines
-plan-same n k xs ys = rw (run-same (lineOf n (over ys (zeros k))) (lineOf n ys) n (λ r l. rw (over-zeros ys k r, over-zeros ys k (n + r))))
+plan-same n k xs ys = rw (run-same (planLine n (over ys (zeros k))) (planLine n ys) n (λ r l. rw (over-zeros ys k r, over-zeros ys k (n + r))))
 
 -- the call returned r and left `answer` in the answer buffer; both buffers held zeros, with room for the largest list
 module _ {ws answer scratch : List ℕ} {r : Planning} (a : PlanAs ws (zeros (2 * maxRegisters)) answer (zeros maxScratch) scratch r) where
@@ -33,11 +33,11 @@ module _ {ws answer scratch : List ℕ} {r : Planning} (a : PlanAs ws (zeros (2 
   plan-reply = rw (zeros-size (2 * maxRegisters), zeros-size maxScratch) at (a .reply)
 
   -- the text of a refusal
-  pub text-refused : {number place next : ℕ} {was now : List ℕ} → r ≡ Refused number place → Put 53 (refusalLine number place) was 0 now next
-      → Put textPlaces (told refusalLine (planLines (registers ws)) (planOf ws)) was 0 now next
+  pub text-refused : {number place next : ℕ} {was now : List ℕ} → r ≡ Refused number place → Put 53 (refusedLine number place) was 0 now next
+      → Put textPlaces (told refusedLine (planLines (registers ws)) (planOf ws)) was 0 now next
   unfolding planReply
   text-refused e put =
-      rw (told-refusal refusalLine (planLines (registers ws)) (planOf ws) (rw e at plan-reply)) (put-within put (omega (arith, put .most)))
+      rw (told-refusal refusedLine (planLines (registers ws)) (planOf ws) (rw e at plan-reply)) (put-within put (omega (arith, put .most)))
 
   module _ {c f t o : ℕ} (e : r ≡ Planned c f t o) where
     plan-told : numbers (c ∷ f ∷ t ∷ o ∷ []) ≡ replyOf (planOf ws)
@@ -46,22 +46,22 @@ module _ {ws answer scratch : List ℕ} {r : Planning} (a : PlanAs ws (zeros (2 
 
     pub planned-in : HeadIn ws
     unfolding planning
-    planned-in = numbers-in ws (callChecks (registers ws) (pairCount ws) (2 * maxRegisters) maxScratch) _ plan-told .head
+    planned-in = numbers-in ws (planCallChecks (registers ws) (pairCount ws) (2 * maxRegisters) maxScratch) _ plan-told .head
 
     -- the text of a plan
     pub text-planned : {n next : ℕ} {was now : List ℕ} → n ≡ registers ws → Put (107 + 63 * n) (planLines n (c ∷ f ∷ t ∷ o ∷ []) answer) was 0 now next
-        → Put textPlaces (told refusalLine (planLines (registers ws)) (planOf ws)) was 0 now next
+        → Put textPlaces (told refusedLine (planLines (registers ws)) (planOf ws)) was 0 now next
     text-planned {n} h put =
         let few : n ≤ maxRegisters = omega (arith, planned-in .most) in
         let stored : answer ≡ bufferAfter (planOf ws) (zeros (2 * maxRegisters)) = rw (zeros-size (2 * maxRegisters), zeros-size maxScratch) at (a .stored) in
-        rw (told-numbers refusalLine (planLines (registers ws)) (zeros (2 * maxRegisters)) (plan-same (registers ws) (2 * maxRegisters)) (planOf ws) plan-told, ← stored, ← h)
+        rw (told-numbers refusedLine (planLines (registers ws)) (zeros (2 * maxRegisters)) (plan-same (registers ws) (2 * maxRegisters)) (planOf ws) plan-told, ← stored, ← h)
         (put-within put (omega (arith, put .most)))
 
 -- ---- bytes that make no words
 
-pub none-reported : (bs : List ℕ) → listOf bs ≡ [] → report bs ≡ refusalLine 11 0
+pub none-reported : (bs : List ℕ) → listOf bs ≡ [] → report bs ≡ refusedLine 11 0
 unfolding planning told report
-none-reported bs e = rw (none-refused bs (callChecks (registers (listOf bs)) (pairCount (listOf bs)) (2 * maxRegisters) maxScratch) _ e)
+none-reported bs e = rw (none-refused bs (planCallChecks (registers (listOf bs)) (pairCount (listOf bs)) (2 * maxRegisters) maxScratch) _ e)
 
 -- ---- room for the largest list is room for every list: no accepted list is refused for want of it
 
@@ -72,5 +72,5 @@ room-for-all ws a =
     let head = accepted-in ws a .head in
     let answer : 2 * registers ws ≤ 2 * maxRegisters = omega (arith, head .most) in
     let scratch : scratchPlaces (registers ws) (pairCount ws) ≤ maxScratch = omega (arith, head .most, head .few) in
-    then-done (listChecks ws) (callChecks (registers ws) (pairCount ws) (2 * maxRegisters) (maxScratch)) _ (accepted→none ws a .none)
-    (passes (callChecks (registers ws) (pairCount ws) (2 * maxRegisters) (maxScratch)) (le-ltb _ _ answer, (le-ltb _ _ scratch, tt)))
+    then-done (listChecks ws) (planCallChecks (registers ws) (pairCount ws) (2 * maxRegisters) (maxScratch)) _ (accepted→none ws a .none)
+    (passes (planCallChecks (registers ws) (pairCount ws) (2 * maxRegisters) (maxScratch)) (le-ltb _ _ answer, (le-ltb _ _ scratch, tt)))

@@ -13,8 +13,8 @@ pub record Printed : Type 0 where
 abbrev pub bytesOfWords : List ℕ → List ℕ
 bytesOfWords ws = toBytes ws (length ws)
 
-unfoldable pub table : List Printed
-table =
+unfoldable pub printedTable : List Printed
+printedTable =
     record {
       bytes = bytesOfWords (0x20002002 ∷ 0x40000001 ∷ 0x60000007 ∷ 0x8000000A ∷ 0x40000400 ∷ 0x60000001 ∷ 0x80000003 ∷ 0xE0002418 ∷ []);
       text = "common 10 free 7 two 7 offset 3\n0 0 0\n1 3 3\n";

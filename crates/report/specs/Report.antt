@@ -8,7 +8,7 @@ use Rattle.refusals.specs.Reply.{Outcome, told}
 use Rattle.list_format.specs.Lists.{registers}
 use Rattle.list_bytes.specs.ListBytes.{listOf}
 use Rattle.planner.specs.PlanCall.{planning}
-use Rattle.pieces.specs.Pieces.{letters, number, named, refusedAt, space, newline}
+use Rattle.text_pieces.specs.Pieces.{letters, number, named, refusedAt, space, newline}
 
 -- ---- the lines
 
@@ -23,19 +23,19 @@ abbrev pub registerLine : ℕ → ℕ → ℕ → List ℕ
 registerLine r free two = number r space ++ (number free space ++ number two newline)
 
 -- the line of register r of n, whose free timings are the first n of xs and whose two-timing values are the next n
-abbrev pub lineOf : ℕ → List ℕ → ℕ → List ℕ
-lineOf n xs r = registerLine r (getD xs r 0) (getD xs (n + r) 0)
+abbrev pub planLine : ℕ → List ℕ → ℕ → List ℕ
+planLine n xs r = registerLine r (getD xs r 0) (getD xs (n + r) 0)
 
 -- the lines of all of them
 unfoldable pub registerLines : ℕ → List ℕ → List ℕ
-registerLines n xs = run (lineOf n xs) n
+registerLines n xs = run (planLine n xs) n
 
 -- line one, and a line for each register
 abbrev pub planLines : ℕ → List ℕ → List ℕ → List ℕ
 planLines n returned stored = periodsLine returned ++ registerLines n stored
 
-abbrev pub refusalLine : ℕ → ℕ → List ℕ
-refusalLine number place = refusedAt number place newline
+abbrev pub refusedLine : ℕ → ℕ → List ℕ
+refusedLine number place = refusedAt number place newline
 
 -- places enough for any text: 20 digits for each number
 abbrev pub textPlaces : ℕ
@@ -49,4 +49,4 @@ planOf ws = planning ws (2 * maxRegisters) maxScratch
 
 -- the text for the bytes of a list
 unfoldable pub report : List ℕ → List ℕ
-report bs = told refusalLine (planLines (registers (listOf bs))) (planOf (listOf bs))
+report bs = told refusedLine (planLines (registers (listOf bs))) (planOf (listOf bs))

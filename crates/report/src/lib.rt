@@ -3,15 +3,15 @@
 ghost use mathlib.Core.List.{[], _∷_};
 ghost use Prim.Native.Nat.{_+_, _*_, _≤_};
 ghost use lib.ListN.{length};
-ghost use Rattle.pieces.specs.Pieces.{Put};
-ghost use Rattle.report.specs.Report.{periodsLine, registerLine, registerLines, planLines, refusalLine, textPlaces, planOf, report};
+ghost use Rattle.text_pieces.specs.Pieces.{Put};
+ghost use Rattle.report.specs.Report.{periodsLine, registerLine, registerLines, planLines, refusedLine, textPlaces, planOf, report};
 ghost use Rattle.refusals.specs.Reply.{told};
 ghost use Rattle.list_format.specs.Lists.{registers};
 use list_bytes::MAX_WORDS;
-use pieces::put_named;
-use pieces::put_number;
-use pieces::put_refused;
 use planner::Planning;
+use text_pieces::put_named;
+use text_pieces::put_number;
+use text_pieces::put_refused;
 use timing::MAX_REGISTERS;
 use timing::MAX_SCRATCH;
 
@@ -76,7 +76,7 @@ fn put_planned(
 // The text for a run of words.
 fn put_text(text: &mut [u8], words: &[u32]) -> usize
     requires { ⌜ textPlaces ≤ length (now text) ⌝ }
-    ensures { λ r. ⌜ Put textPlaces (told refusalLine (planLines (registers (now (words .entry)))) (planOf (now (words .entry)))) (now (text .entry)) 0 (now (text .exit)) r ⌝ }
+    ensures { λ r. ⌜ Put textPlaces (told refusedLine (planLines (registers (now (words .entry)))) (planOf (now (words .entry)))) (now (text .entry)) 0 (now (text .exit)) r ⌝ }
 {
     let mut answer = [0u32; ANSWER_PLACES];
     let mut scratch = [0u32; MAX_SCRATCH];

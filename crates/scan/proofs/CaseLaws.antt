@@ -5,9 +5,9 @@ use mathlib.Core.List.{List}
 use mathlib.Core.Path.{_≡_, refl, sym, _∙_}
 use lib.ListN.{set}
 use borrow.Author.Tests.{not-true, not-false, lt-ltb, le-ltb, eq-eqb, ne-eqb}
-use Rattle.pieces.specs.Pieces.{space, newline}
+use Rattle.text_pieces.specs.Pieces.{space, newline}
 use Rattle.scan.specs.declared.State.{State}
-use Rattle.scan.specs.Scan.{maxNumbers, failed, withDigit, closed, lineFault, nextLine, lineEnded, step, someNumber, finished, keptIn}
+use Rattle.scan.specs.Scan.{maxNumbers, failed, withDigit, numberEnded, lineFault, nextLine, lineEnded, step, someNumber, finished, keptIn}
 
 -- ---- the end of a line of a list
 
@@ -50,18 +50,18 @@ module _ (s : State) where
   unfolding withDigit
   digit-more d h = rw (le-ltb 4_294_967_295 (10 * s .value + d) h)
 
-  pub closed-outside : not (s .inside) ≡ true → s ≡ closed s
-  unfolding closed
-  closed-outside e = rw (not-true (s .inside) e)
+  pub ended-outside : not (s .inside) ≡ true → s ≡ numberEnded s
+  unfolding numberEnded
+  ended-outside e = rw (not-true (s .inside) e)
 
-  pub closed-full : not (s .inside) ≡ false → maxNumbers ≤ s .count → failed s 5 ≡ closed s
-  unfolding closed
-  closed-full e h = rw (not-false (s .inside) e, le-ltb (s .count) maxNumbers h)
+  pub ended-full : not (s .inside) ≡ false → maxNumbers ≤ s .count → failed s 5 ≡ numberEnded s
+  unfolding numberEnded
+  ended-full e h = rw (not-false (s .inside) e, le-ltb (s .count) maxNumbers h)
 
-  pub closed-next : not (s .inside) ≡ false → s .count < maxNumbers
-      → record { lined = s .lined; line = s .line; first = s .first; count = s .count + 1; inside = false; value = 0; fault = 0 } ≡ closed s
-  unfolding closed
-  closed-next e h = rw (not-false (s .inside) e, lt-ltb (s .count) maxNumbers h)
+  pub ended-next : not (s .inside) ≡ false → s .count < maxNumbers
+      → record { lined = s .lined; line = s .line; first = s .first; count = s .count + 1; inside = false; value = 0; fault = 0 } ≡ numberEnded s
+  unfolding numberEnded
+  ended-next e h = rw (not-false (s .inside) e, lt-ltb (s .count) maxNumbers h)
 
   -- ---- a line
 
@@ -85,12 +85,12 @@ module _ (s : State) where
   step-stays byte h = rw (ne-eqb (s .fault) 0 h)
 
   module _ (byte : ℕ) (ok : s .fault ≡ 0) where
-    pub step-space : byte ≡ space → closed s ≡ step s byte
+    pub step-space : byte ≡ space → numberEnded s ≡ step s byte
     unfolding step
     step-space h = rw (eq-eqb (s .fault) 0 ok, eq-eqb byte space h)
 
     module _ (a : byte ≡ space → ⊥) where
-      pub step-newline : byte ≡ newline → lineEnded (closed s) ≡ step s byte
+      pub step-newline : byte ≡ newline → lineEnded (numberEnded s) ≡ step s byte
       unfolding step
       step-newline h = rw (eq-eqb (s .fault) 0 ok, ne-eqb byte space a, eq-eqb byte newline h)
 
@@ -113,7 +113,7 @@ module _ (s : State) where
   unfolding finished
   finish-stays h = rw (ne-eqb (s .fault) 0 h)
 
-  module _ {last : State} (ok : s .fault ≡ 0) (e : last ≡ closed s) where
+  module _ {last : State} (ok : s .fault ≡ 0) (e : last ≡ numberEnded s) where
     pub finish-faulty : (last .fault ≡ 0 → ⊥) → last ≡ finished s
     unfolding finished someNumber lineEnded
     finish-faulty h = rw (eq-eqb (s .fault) 0 ok, ← e, ne-eqb (last .fault) 0 h, ne-eqb (last .fault) 0 h)

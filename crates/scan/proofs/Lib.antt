@@ -1,6 +1,6 @@
 pub mod CaseLaws
 pub mod StateLaws
-pub mod WalkLaws
+pub mod ScanLaws
 pub mod ReadsLaws
 pub mod UnlinedLaws
 pub mod StoredLaws

@@ -10,12 +10,12 @@ use lib.Dec.{ltb, eqb}
 use lib.ListN.{length}
 use borrow.Author.Tests.{ltb-true, ltb-false, lt-ltb, le-ltb}
 use Rattle.buffers.specs.Run.{run}
-use Rattle.pieces.specs.Pieces.{digit, decimal, number, space, newline}
-use Rattle.pieces.proofs.DecimalLaws.{decimal-one, decimal-more}
+use Rattle.text_pieces.specs.Pieces.{digit, decimal, number, space, newline}
+use Rattle.text_pieces.proofs.DecimalLaws.{decimal-one, decimal-more}
 use Rattle.scan.specs.declared.State.{State}
-use Rattle.scan.specs.Scan.{maxNumbers, start, withDigit, closed, lineFault, lineEnded, step, finished, someNumber, kept, after, ended}
-use Rattle.scan.proofs.CaseLaws.{digit-more, closed-next, line-next, step-space, step-newline, step-digit}
-use Rattle.scan.proofs.WalkLaws.{after-append, ended-append}
+use Rattle.scan.specs.Scan.{maxNumbers, start, withDigit, numberEnded, lineFault, lineEnded, step, finished, someNumber, kept, after, ended}
+use Rattle.scan.proofs.CaseLaws.{digit-more, ended-next, line-next, step-space, step-newline, step-digit}
+use Rattle.scan.proofs.ScanLaws.{after-append, ended-append}
 
 -- the bytes lead from s to t, and end the numbers xs
 pub record Reads (s : State) (bytes xs : List ℕ) (t : State) : Type 0 where
@@ -84,8 +84,8 @@ module _ (lined : Bool) (line first count : ℕ) where
   digits n l = digits-in (suc n) n (omega arith) l
 
   module _ (n : ℕ) (l : n ≤ 4_294_967_295) (room : count < maxNumbers) where
-    ends : at lined line first (count + 1) ≡ closed (within lined line first count n)
-    ends = closed-next (within lined line first count n) refl room
+    ends : at lined line first (count + 1) ≡ numberEnded (within lined line first count n)
+    ends = ended-next (within lined line first count n) refl room
 
     -- a number and a space
     pub reads-space : Reads (at lined line first count) (number n space) (n ∷ []) (at lined line first (count + 1))
@@ -97,6 +97,6 @@ module _ (lined : Bool) (line first count : ℕ) where
     pub reads-newline : 0 ≡ lineFault lined first (count + 1) → Reads (at lined line first count) (number n newline) (n ∷ []) (at lined (line + 1) (count + 1) (count + 1))
     reads-newline fit =
         let s = within lined line first count n in
-        let ended : at lined (line + 1) (count + 1) (count + 1) ≡ lineEnded (closed s) = line-next (at lined line first (count + 1)) refl fit refl ∙ ap lineEnded ends in
+        let ended : at lined (line + 1) (count + 1) (count + 1) ≡ lineEnded (numberEnded s) = line-next (at lined line first (count + 1)) refl fit refl ∙ ap lineEnded ends in
         reads-then (digits n l)
         (reads-one (sym (ended ∙ step-newline s newline refl (λ z. omega arith) refl)) (kept-next s (at lined (line + 1) (count + 1) (count + 1)) (omega arith)))

@@ -5,9 +5,9 @@ use mathlib.Core.Path.{_≡_, refl}
 use native.Mathlib.Omega.{arith}
 use lib.Dec.{ltb, eqb}
 use borrow.Author.Tests.{ltb-true}
-use Rattle.pieces.specs.Pieces.{space, newline}
+use Rattle.text_pieces.specs.Pieces.{space, newline}
 use Rattle.scan.specs.declared.State.{State}
-use Rattle.scan.specs.Scan.{maxNumbers, failed, withDigit, closed, lineFault, lineEnded, step, someNumber, finished, StateIn}
+use Rattle.scan.specs.Scan.{maxNumbers, failed, withDigit, numberEnded, lineFault, lineEnded, step, someNumber, finished, StateIn}
 
 -- at most l lines and k numbers further
 pub record Moves (l k : ℕ) (s t : State) : Type 0 where
@@ -56,9 +56,9 @@ module _ (s : State) (f : Fair s) where
       either (ltb 4_294_967_295 (10 * s .value + d)) (failed-moves 2)
       (record { line = omega arith; low = omega arith; high = omega arith; first = f .first; most = f .most })
 
-  pub closed-moves : Moves 0 1 s (closed s)
-  unfolding closed
-  closed-moves = either (s .inside) (go (ltb (s .count) maxNumbers) refl) (more 0 1 (omega arith) (omega arith) stay)
+  pub ended-moves : Moves 0 1 s (numberEnded s)
+  unfolding numberEnded
+  ended-moves = either (s .inside) (go (ltb (s .count) maxNumbers) refl) (more 0 1 (omega arith) (omega arith) stay)
     where
       next : State
       next = record { lined = s .lined; line = s .line; first = s .first; count = s .count + 1; inside = false; value = 0; fault = 0 }
@@ -87,14 +87,14 @@ unfolding someNumber
 some-moves s f = either (eqb (s .fault) 0) (either (eqb (s .count) 0) (failed-moves s f 6) (stay s f)) (stay s f)
 
 module _ (s : State) (f : Fair s) where
-  both-moves : Moves 1 1 s (lineEnded (closed s))
-  both-moves = then (closed-moves s f) (line-moves (closed s) (fair (closed-moves s f)))
+  both-moves : Moves 1 1 s (lineEnded (numberEnded s))
+  both-moves = then (ended-moves s f) (line-moves (numberEnded s) (fair (ended-moves s f)))
 
   pub step-moves : (byte : ℕ) → Moves 1 1 s (step s byte)
   unfolding step
   step-moves byte =
       either (eqb (s .fault) 0)
-      (either (eqb byte space) (more 1 1 (omega arith) (omega arith) (closed-moves s f))
+      (either (eqb byte space) (more 1 1 (omega arith) (omega arith) (ended-moves s f))
       (either (eqb byte newline) both-moves
       (either (ltb byte 48) (far (failed-moves s f 1))
       (either (ltb 57 byte) (far (failed-moves s f 1)) (far (digit-moves s f (byte - 48)))))))
@@ -103,15 +103,15 @@ module _ (s : State) (f : Fair s) where
   pub finish-moves : Moves 1 1 s (finished s)
   unfolding finished
   finish-moves =
-      let some : Moves 0 1 s (someNumber (closed s)) = then (closed-moves s f) (some-moves (closed s) (fair (closed-moves s f))) in
-      either (eqb (s .fault) 0) (then some (line-moves (someNumber (closed s)) (fair some)))
+      let some : Moves 0 1 s (someNumber (numberEnded s)) = then (ended-moves s f) (some-moves (numberEnded s) (fair (ended-moves s f))) in
+      either (eqb (s .fault) 0) (then some (line-moves (someNumber (numberEnded s)) (fair some)))
       (more 1 1 (omega arith) (omega arith) (stay s f))
 
 pub fair-in : {s : State} → StateIn s → Fair s
 fair-in i = record { first = i .first; most = i .count }
 
 -- after the end of a number the line is the same
-pub closed-in : (s : State) → StateIn s → StateIn (closed s)
-closed-in s i =
-    let m = closed-moves s (fair-in i) in
+pub ended-in : (s : State) → StateIn s → StateIn (numberEnded s)
+ended-in s i =
+    let m = ended-moves s (fair-in i) in
     record { line = omega (arith, m .line, i .line); first = m .first; count = m .most }

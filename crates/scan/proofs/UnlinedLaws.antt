@@ -6,11 +6,11 @@ use mathlib.Core.Path.{_≡_, refl}
 use lib.Dec.{ltb, eqb}
 use lib.ListN.{length}
 use borrow.Author.Tests.{eqb-false}
-use Rattle.pieces.specs.Pieces.{space, newline}
+use Rattle.text_pieces.specs.Pieces.{space, newline}
 use Rattle.scan.specs.declared.State.{State}
 use Rattle.scan.specs.declared.Scanned.{Scanned}
 use Rattle.scan.specs.declared.Scanned.the-variants.{Numbers, Faulty}
-use Rattle.scan.specs.Scan.{maxNumbers, textBytes, start, failed, withDigit, closed, lineFault, lineEnded, step, someNumber, finished, after, last, scanned}
+use Rattle.scan.specs.Scan.{maxNumbers, textBytes, start, failed, withDigit, numberEnded, lineFault, lineEnded, step, someNumber, finished, after, last, scanned}
 
 -- neither 3 nor 4
 pub record NoLine (fault : ℕ) : Type 0 where
@@ -41,9 +41,9 @@ module _ (s : State) (u : Unlined s) where
       either (ltb 4_294_967_295 (10 * s .value + d)) (failed-unlined 2 (no-line 2 refl refl))
       (record { lined = u .lined; fault = none })
 
-  closed-unlined : Unlined (closed s)
-  unfolding closed
-  closed-unlined =
+  ended-unlined : Unlined (numberEnded s)
+  unfolding numberEnded
+  ended-unlined =
       either (s .inside)
       (either (ltb (s .count) maxNumbers) (record { lined = u .lined; fault = none })
       (failed-unlined 5 (no-line 5 refl refl)))
@@ -68,16 +68,16 @@ module _ (s : State) (u : Unlined s) where
   step-unlined byte =
       let wrong : Unlined (failed s 1) = failed-unlined s u 1 (no-line 1 refl refl) in
       either (eqb (s .fault) 0)
-      (either (eqb byte space) (closed-unlined s u)
-      (either (eqb byte newline) (line-unlined (closed s) (closed-unlined s u))
+      (either (eqb byte space) (ended-unlined s u)
+      (either (eqb byte newline) (line-unlined (numberEnded s) (ended-unlined s u))
       (either (ltb byte 48) wrong (either (ltb 57 byte) wrong (digit-unlined s u (byte - 48))))))
       u
 
   finish-unlined : Unlined (finished s)
   unfolding finished
   finish-unlined =
-      let some = some-unlined (closed s) (closed-unlined s u) in
-      either (eqb (s .fault) 0) (line-unlined (someNumber (closed s)) some) u
+      let some = some-unlined (numberEnded s) (ended-unlined s u) in
+      either (eqb (s .fault) 0) (line-unlined (someNumber (numberEnded s)) some) u
 
 after-unlined : (s : State) → Unlined s → (bs : List ℕ) → Unlined (after s bs)
 unfolding after

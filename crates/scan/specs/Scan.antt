@@ -8,7 +8,7 @@ use lib.Dec.{ltb, eqb}
 use lib.ListN.{length, set}
 use Rattle.timing.specs.Limits.{maxPairs}
 use Rattle.buffers.specs.Over.{over}
-use Rattle.pieces.specs.Pieces.{space, newline}
+use Rattle.text_pieces.specs.Pieces.{space, newline}
 use Rattle.scan.specs.declared.State.{State}
 use Rattle.scan.specs.declared.Scanned.{Scanned}
 use Rattle.scan.specs.declared.Scanned.the-variants.{Numbers, Faulty}
@@ -38,8 +38,8 @@ withDigit s d =
     (record { lined = s .lined; line = s .line; first = s .first; count = s .count; inside = true; value = 10 * s .value + d; fault = 0 })
 
 -- the end of a number, if one has begun. 5: too many numbers
-unfoldable pub closed : State → State
-closed s =
+unfoldable pub numberEnded : State → State
+numberEnded s =
     cond (s .inside)
     (cond (ltb (s .count) maxNumbers)
     (record { lined = s .lined; line = s .line; first = s .first; count = s .count + 1; inside = false; value = 0; fault = 0 })
@@ -67,8 +67,8 @@ lineEnded s =
 unfoldable pub step : State → ℕ → State
 step s byte =
     cond (eqb (s .fault) 0)
-    (cond (eqb byte space) (closed s)
-    (cond (eqb byte newline) (lineEnded (closed s))
+    (cond (eqb byte space) (numberEnded s)
+    (cond (eqb byte newline) (lineEnded (numberEnded s))
     (cond (ltb byte 48) (failed s 1) (cond (ltb 57 byte) (failed s 1) (withDigit s (byte - 48))))))
     s
 
@@ -78,7 +78,7 @@ someNumber s = cond (eqb (s .fault) 0) (cond (eqb (s .count) 0) (failed s 6) s) 
 
 -- the end of the text, which ends its last line
 unfoldable pub finished : State → State
-finished s = cond (eqb (s .fault) 0) (lineEnded (someNumber (closed s))) s
+finished s = cond (eqb (s .fault) 0) (lineEnded (someNumber (numberEnded s))) s
 
 -- the number that ended on the way from one state to the next, if any
 unfoldable pub kept : State → State → List ℕ
@@ -105,20 +105,20 @@ abbrev pub last : Bool → List ℕ → State
 last lined bs = finished (after (start lined) bs)
 
 -- its numbers
-abbrev pub numbersOf : Bool → List ℕ → List ℕ
-numbersOf lined bs = ended (start lined) bs ++ kept (after (start lined) bs) (last lined bs)
+abbrev pub scannedNumbers : Bool → List ℕ → List ℕ
+scannedNumbers lined bs = ended (start lined) bs ++ kept (after (start lined) bs) (last lined bs)
 
 -- the count of the numbers, or what is wrong and the line
-abbrev pub told : State → Scanned
-told s = cond (eqb (s .fault) 0) (Numbers (s .count)) (Faulty (s .fault) (s .line))
+abbrev pub resultOf : State → Scanned
+resultOf s = cond (eqb (s .fault) 0) (Numbers (s .count)) (Faulty (s .fault) (s .line))
 
 -- 7: a text that is too long
 unfoldable pub scanned : Bool → List ℕ → Scanned
-scanned lined bs = cond (ltb textBytes (length bs)) (Faulty 7 1) (told (last lined bs))
+scanned lined bs = cond (ltb textBytes (length bs)) (Faulty 7 1) (resultOf (last lined bs))
 
 -- the numbers that are stored: none of a text that is too long
 unfoldable pub storedOf : Bool → List ℕ → List ℕ
-storedOf lined bs = cond (ltb textBytes (length bs)) [] (numbersOf lined bs)
+storedOf lined bs = cond (ltb textBytes (length bs)) [] (scannedNumbers lined bs)
 
 -- as many numbers are stored as are said, at least one
 pub record Counted (xs : List ℕ) (count : ℕ) : Type 0 where
@@ -141,7 +141,7 @@ pub record StateIn (s : State) : Type 0 where
   pub count : s .count ≤ maxNumbers
 
 -- the bytes bs were read, into places that held `was` and hold `now`
-pub record Walked (lined : Bool) (bs was now : List ℕ) (s : State) : Type 0 where
+pub record ScannedTo (lined : Bool) (bs was now : List ℕ) (s : State) : Type 0 where
   pub state : s ≡ after (start lined) bs
   pub within : StateIn s
   pub size : s .count ≡ length (ended (start lined) bs)

@@ -3,7 +3,7 @@
 ghost use mathlib.Core.Path.{_≡_};
 ghost use Prim.Native.Nat.{_+_, _≤_, _<_};
 ghost use lib.ListN.{length};
-ghost use Rattle.scan.specs.Scan.{textBytes, maxNumbers, start, failed, withDigit, closed, lineFault, lineEnded, step, finished, keptIn, StateIn, Walked, ScanAs};
+ghost use Rattle.scan.specs.Scan.{textBytes, maxNumbers, start, failed, withDigit, numberEnded, lineFault, lineEnded, step, finished, keptIn, StateIn, ScannedTo, ScanAs};
 use timing::MAX_PAIRS;
 
 // The most numbers that a text may hold: the count of registers, and four for each pair.
@@ -86,7 +86,7 @@ impl State {
 
     // The end of a number, if one has begun. 5: too many numbers.
     fn close(self) -> State
-        ensures { λ r. ⌜ r ≡ closed self ⌝ }
+        ensures { λ r. ⌜ r ≡ numberEnded self ⌝ }
     {
         if !self.inside {
             return self;
@@ -226,9 +226,9 @@ fn turn_end(state: State, numbers: &mut [u32]) -> State
 }
 
 // All bytes of a text, with the numbers that they end in the first places of `numbers`.
-fn walk(bytes: &[u8], lined: bool, numbers: &mut [u32]) -> State
+fn read_bytes(bytes: &[u8], lined: bool, numbers: &mut [u32]) -> State
     requires { ⌜ (length (now bytes) ≤ textBytes) × (maxNumbers ≤ length (now numbers)) ⌝ }
-    ensures { λ r. ⌜ Walked lined (now (bytes .entry)) (now (numbers .entry)) (now (numbers .exit)) r ⌝ }
+    ensures { λ r. ⌜ ScannedTo lined (now (bytes .entry)) (now (numbers .entry)) (now (numbers .exit)) r ⌝ }
 {
     let mut state = begin(lined);
     let mut i = 0;
@@ -247,7 +247,7 @@ pub fn scan(bytes: &[u8], lined: bool, numbers: &mut [u32; MAX_NUMBERS]) -> Scan
     if bytes.len() > TEXT_BYTES {
         return Scanned::Faulty(7, 1);
     }
-    let walked = walk(bytes, lined, numbers);
+    let walked = read_bytes(bytes, lined, numbers);
     let last = turn_end(walked, numbers);
     if last.fault != 0 {
         return Scanned::Faulty(last.fault, last.line);

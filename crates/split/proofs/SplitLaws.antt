@@ -22,7 +22,7 @@ use Rattle.split_laws.specs.Split.{timings, firstSplit}
 use Rattle.split_laws.specs.Marks.{splitOf}
 use Rattle.propagate.specs.Store.{Decided, chosen}
 use Rattle.split.specs.declared.Splitting.the-variants.{Split, NoSplit, Refused}
-use Rattle.split.specs.Splitting.{callChecks, splitChecks, shown, splitting, splitReply, SplitAs, Allowed}
+use Rattle.split.specs.Splitting.{splitCallChecks, splitChecks, splitOutcome, splitting, splitReply, SplitAs, Allowed}
 
 module _ (ws : List ℕ) (period offset : ℕ) (answer scratch : List ℕ) where
   -- a refusal changes nothing
@@ -37,8 +37,8 @@ module _ (ws : List ℕ) (period offset : ℕ) (answer scratch : List ℕ) where
   list-refused v = kept (first-refused (listChecks ws) _ _ (refused→fault ws v))
 
   -- the list is accepted, and the caller's checks decide
-  module _ {n m : ℕ} (v : verdict ws ≡ Accepted n m) {f : Fault} (e : f ≡ firstFault (callChecks n m period offset (length answer) (length scratch))) where
-    fault-is : f ≡ firstFault (callChecks (registers ws) (pairCount ws) period offset (length answer) (length scratch))
+  module _ {n m : ℕ} (v : verdict ws ≡ Accepted n m) {f : Fault} (e : f ≡ firstFault (splitCallChecks n m period offset (length answer) (length scratch))) where
+    fault-is : f ≡ firstFault (splitCallChecks (registers ws) (pairCount ws) period offset (length answer) (length scratch))
     fault-is =
         let a = accepted→none ws v in
         rw (a .registersAre, a .pairsAre) at e
@@ -50,7 +50,7 @@ module _ (ws : List ℕ) (period offset : ℕ) (answer scratch : List ℕ) where
     pub call-allowed : f ≡ None → Allowed ws period offset n m answer scratch
     call-allowed g =
         let a = accepted→none ws v in
-        let call = callChecks (registers ws) (pairCount ws) period offset (length answer) (length scratch) in
+        let call = splitCallChecks (registers ws) (pairCount ws) period offset (length answer) (length scratch) in
         let p = passed call (sym fault-is ∙ g) in
         let h : registers ws ≤ length answer = ltb-false _ _ (p .1 .1 .1 .0) in
         let k : scratchPlaces (registers ws) (pairCount ws) ≤ length scratch = ltb-false _ _ (p .1 .1 .1 .1 .0) in
@@ -68,17 +68,17 @@ module _ (ws : List ℕ) (period offset : ℕ) (answer scratch : List ℕ) where
       zeros : S′ ≡ over (replicate (scratchPlaces (registers ws) (pairCount ws)) 0) scratch
       zeros = cleared ∙ rw (length-replicate, a .pairsAre, d .rest, a .lent .registersAre)
 
-      outcome : (b : Bool) → r ≡ b → splitting ws period offset (length answer) (length scratch) ≡ shown offset (chosen b (splitOf (take n S)))
+      outcome : (b : Bool) → r ≡ b → splitting ws period offset (length answer) (length scratch) ≡ splitOutcome offset (chosen b (splitOf (take n S)))
       unfolding splitting
       outcome b e =
           answered-done (splitChecks ws period offset (length answer) (length scratch)) _ (a .none)
-          ∙ ap (shown offset)
+          ∙ ap (splitOutcome offset)
           (ap (λ (k : ℕ). firstSplit k period offset (pairs ws)) (sym (a .lent .registersAre)) ∙ d .first ∙ ap (λ (x : Bool). chosen x (splitOf (take n S))) e)
 
       pub none-shown : r ≡ false → SplitAs ws period offset answer answer scratch S′ NoSplit
-      unfolding shown replyOf bufferAfter scratchAfter splitReply
+      unfolding splitOutcome replyOf bufferAfter scratchAfter splitReply
       none-shown e = record { reply = rw (outcome false e); stored = rw (outcome false e); left = rw (outcome false e) zeros }
 
       pub split-shown : r ≡ true → {answer′ : List ℕ} → answer′ ≡ over (timings offset (splitOf (take n S))) answer → SplitAs ws period offset answer answer′ scratch S′ Split
-      unfolding shown replyOf bufferAfter scratchAfter splitReply
+      unfolding splitOutcome replyOf bufferAfter scratchAfter splitReply
       split-shown e h = record { reply = rw (outcome true e); stored = rw (outcome true e) h; left = rw (outcome true e) zeros }

@@ -15,8 +15,8 @@ use Rattle.split.specs.declared.Splitting.{Splitting}
 use Rattle.split.specs.declared.Splitting.the-variants.{Split, NoSplit, Refused}
 
 -- 3: period or offset out of range. 2: an answer buffer of fewer than n places. 1: too little scratch
-abbrev pub callChecks : ℕ → ℕ → ℕ → ℕ → ℕ → ℕ → List Check
-callChecks n m period offset room spare =
+abbrev pub splitCallChecks : ℕ → ℕ → ℕ → ℕ → ℕ → ℕ → List Check
+splitCallChecks n m period offset room spare =
     (eqb period 0, 3, 0)
     ∷ (ltb maxPeriod period, 3, 0)
     ∷ (ltb maxOffset offset, 3, 0)
@@ -26,17 +26,17 @@ callChecks n m period offset room spare =
 
 -- 11 to 17, then 3, 2, 1
 abbrev pub splitChecks : List ℕ → ℕ → ℕ → ℕ → ℕ → List Check
-splitChecks ws period offset room spare = listChecks ws ++ callChecks (registers ws) (pairCount ws) period offset room spare
+splitChecks ws period offset room spare = listChecks ws ++ splitCallChecks (registers ws) (pairCount ws) period offset room spare
 
 -- a split: 1 is returned, and its timings are stored; none: 0 is returned, and nothing is stored
-unfoldable pub shown : ℕ → Found → Outcome
-shown offset nothing = done (0 ∷ []) []
-shown offset (found c) = done (1 ∷ []) (timings offset c)
+unfoldable pub splitOutcome : ℕ → Found → Outcome
+splitOutcome offset nothing = done (0 ∷ []) []
+splitOutcome offset (found c) = done (1 ∷ []) (timings offset c)
 
 -- the first split at a period and an offset, with `room` places for the answer and `spare` places of scratch
 unfoldable pub splitting : List ℕ → ℕ → ℕ → ℕ → ℕ → Outcome
 splitting ws period offset room spare =
-    answered (splitChecks ws period offset room spare) (shown offset (firstSplit (registers ws) period offset (pairs ws)))
+    answered (splitChecks ws period offset room spare) (splitOutcome offset (firstSplit (registers ws) period offset (pairs ws)))
 
 -- the number and values of each case of the answer
 unfoldable pub splitReply : Splitting → Reply

@@ -2,7 +2,7 @@
 // The contracts cite `specs/Splitting.antt`; what a split is stands in `split_laws`.
 ghost use mathlib.Core.Path.{_≡_};
 ghost use Rattle.refusals.specs.Checks.{firstFault};
-ghost use Rattle.split.specs.Splitting.{callChecks, SplitAs, Allowed};
+ghost use Rattle.split.specs.Splitting.{splitCallChecks, SplitAs, Allowed};
 use list_format::Verdict;
 use refusals::Fault;
 
@@ -15,7 +15,7 @@ pub enum Splitting {
 
 // 3, 2 and 1, for a list of n registers and m pairs.
 fn call_fault(n: u32, m: u32, period: u32, offset: u32, room: usize, spare: usize) -> Fault
-    ensures { λ r. ⌜ r ≡ firstFault (callChecks n m period offset room spare) ⌝ }
+    ensures { λ r. ⌜ r ≡ firstFault (splitCallChecks n m period offset room spare) ⌝ }
 {
     Fault::None
         .or(period == 0, 3, 0)

@@ -12,17 +12,17 @@ use Rattle.timing.specs.Rules.{pairMet, admissible, Each, time}
 use Rattle.timing.proofs.RuleLaws.{and-true}
 use Rattle.split_laws.specs.declared.Change.{Change}
 use Rattle.split_laws.specs.declared.Change.the-variants.{Settled}
-use Rattle.split_laws.specs.Split.{nothing, found, timing, timings, meets, broken, works, splits, firstOf, firstSplit}
+use Rattle.split_laws.specs.Split.{nothing, found, timeOf, timings, meets, broken, works, splits, firstOf, firstSplit}
 use Rattle.split_laws.specs.Table.{mark, late, isLate, brokenRow, flag}
-use Rattle.split_laws.specs.Marks.{choice, Agrees, splitOf, Step, joined, Avoids, Applied, Seeded, Flagged, keeps, Keeps, RowsClosed, Closed, Settles}
-use Rattle.split_laws.proofs.FirstLaws.{Below, none-first, least-first}
+use Rattle.split_laws.specs.Marks.{choice, Agrees, splitOf, MarkStep, joined, Avoids, Applied, Seeded, Flagged, keeps, Keeps, RowsClosed, MarksClosed, Settles}
+use Rattle.split_laws.proofs.FirstLaws.{NoLater, none-first, least-first}
 use Rattle.split_laws.proofs.TableLaws.{late-launch, flag-one}
 use Rattle.split_laws.proofs.MarkLaws.{step-none, step-for, step-with, step-then}
 
 -- ---- a split works exactly where each pair keeps its rules
 
-pub time-of : (s : ℕ) (c : List Bool) (r : ℕ) → time (timings s c) r ≡ timing s (getD c r false)
-time-of s c r = List·getD-map (timing s) c r false
+pub time-of : (s : ℕ) (c : List Bool) (r : ℕ) → time (timings s c) r ≡ timeOf s (getD c r false)
+time-of s c r = List·getD-map (timeOf s) c r false
 
 module _ (t s : ℕ) (c : List Bool) where
   rules-as : (p : Pair) → pairMet p t (time (timings s c) (p .launch)) (time (timings s c) (p .capture)) ≡ keeps t s p c
@@ -67,7 +67,7 @@ module _ (t s : ℕ) (p : Pair) (c : List Bool) (met : keeps t s p c ≡ true) w
 
 -- what the flags force by the first k rows is followed
 abbrev pub Settling : ℕ → Pair → List ℕ → List ℕ → List ℕ → Change → Type 0
-Settling k p fs = Step (Keeps p fs) (λ (M : List ℕ). (t s : ℕ) → Flagged t s p fs → RowsClosed k t s p M)
+Settling k p fs = MarkStep (Keeps p fs) (λ (M : List ℕ). (t s : ℕ) → Flagged t s p fs → RowsClosed k t s p M)
 
 module _ (p : Pair) (fs : List ℕ) where
   pub settling-start : (M : List ℕ) → Settling 0 p fs M M Settled
@@ -100,7 +100,7 @@ unfolding splitOf
 getD-splitOf M i = List·getD-map isLate M i 0
 
 -- nothing more is forced: then the pair keeps its rules
-pub closed-keeps : (t s : ℕ) (p : Pair) (M : List ℕ) → Closed t s p M → keeps t s p (splitOf M) ≡ true
+pub closed-keeps : (t s : ℕ) (p : Pair) (M : List ℕ) → MarksClosed t s p M → keeps t s p (splitOf M) ≡ true
 closed-keeps t s p M h = rw (getD-splitOf M (p .launch), getD-splitOf M (p .capture)) (go (isLate x) (isLate y) (meets t s p (isLate x) (isLate y)) refl refl refl)
   where
     x : ℕ
@@ -117,7 +117,7 @@ closed-keeps t s p M h = rw (getD-splitOf M (p .launch), getD-splitOf M (p .capt
     go true true false ea eb e = absurd (omega (arith, h .rows 3 (omega arith) (ap not e) .0 (eqb-true x 2 ea), eqb-true y 2 eb))
 
 -- it is late only where every split that agrees with the marks is
-pub split-below : (M : List ℕ) (c : List Bool) → Agrees c M → Below (splitOf M) c
+pub split-below : (M : List ℕ) (c : List Bool) → Agrees c M → NoLater (splitOf M) c
 split-below M c a i e =
     let two : getD M i 0 ≡ 2 = eqb-true _ _ (sym (getD-splitOf M i) ∙ e) in
     late-true (getD c i false) (sym (a i (λ z. omega arith)) ∙ two)
@@ -140,7 +140,7 @@ module _ (n t s : ℕ) (ps : List Pair) where
   first-none h = none-first n (works t s ps) (λ c l w. h c w)
 
   -- marks that force nothing more, and with which every working split agrees
-  pub first-found : (M : List ℕ) → length M ≡ n → Each (λ p. Closed t s p M) ps → ((c : List Bool) → works t s ps c ≡ true → Agrees c M)
+  pub first-found : (M : List ℕ) → length M ≡ n → Each (λ p. MarksClosed t s p M) ps → ((c : List Bool) → works t s ps c ≡ true → Agrees c M)
       → firstSplit n t s ps ≡ found (splitOf M)
   unfolding firstSplit
   first-found M e closed sound =

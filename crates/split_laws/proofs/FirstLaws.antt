@@ -7,8 +7,8 @@ use lib.ListN.{length, getD}
 use Rattle.split_laws.specs.Split.{Found, nothing, found, splits, orElse, firstOf}
 
 -- c is late only where d is
-abbrev pub Below : List Bool → List Bool → Type 0
-Below c d = (i : ℕ) → getD c i false ≡ true → getD d i false ≡ true
+abbrev pub NoLater : List Bool → List Bool → Type 0
+NoLater c d = (i : ℕ) → getD c i false ≡ true → getD d i false ≡ true
 
 -- what the first of two runs finds, else what the second does
 abbrev or : Found → Found → Found
@@ -62,7 +62,7 @@ none-first (suc n) f h =
     )
 
 -- c passes, and each split that passes is late where c is
-pub least-first : (c : List Bool) (f : List Bool → Bool) → f c ≡ true → ((d : List Bool) → length d ≡ length c → f d ≡ true → Below c d) → firstOf f (splits (length c)) ≡ found c
+pub least-first : (c : List Bool) (f : List Bool → Bool) → f c ≡ true → ((d : List Bool) → length d ≡ length c → f d ≡ true → NoLater c d) → firstOf f (splits (length c)) ≡ found c
 unfolding splits firstOf
 least-first [] f e h = ap (λ (t : Bool). orElse t [] nothing) e
 least-first (false ∷ c) f e h =

@@ -12,7 +12,7 @@ use Rattle.split_laws.specs.declared.Row.{Row}
 use Rattle.split_laws.specs.declared.Change.{Change}
 use Rattle.split_laws.specs.declared.Change.the-variants.{Settled, Changed, Clash}
 use Rattle.split_laws.specs.Table.{mark, late, rowLaunch, rowCapture}
-use Rattle.split_laws.specs.Marks.{choice, Agrees, isZero, unset, Kept, Told, Step, joined, Forced, Followed, Avoids, Applied, Seeded}
+use Rattle.split_laws.specs.Marks.{choice, Agrees, isZero, unset, Kept, MarkTold, MarkStep, joined, Forced, Followed, Avoids, Applied, Seeded}
 use Rattle.split_laws.proofs.TableLaws.{RowIs}
 
 mark-range : (b : Bool) → (1 ≤ mark b) × (mark b ≤ 2)
@@ -31,11 +31,11 @@ pub kept-then : {P : List Bool → Type 0} {M M′ M″ : List ℕ} → Kept P M
 kept-then h k = record { size = k .size ∙ h .size; sound = λ c p a. k .sound c p (h .sound c p a) }
 
 -- nothing to do
-pub step-none : {P : List Bool → Type 0} {C : List ℕ → Type 0} (M : List ℕ) → C M → Step P C M M Settled
+pub step-none : {P : List Bool → Type 0} {C : List ℕ → Type 0} (M : List ℕ) → C M → MarkStep P C M M Settled
 step-none M h = record { kept = kept-none _ M; told = (refl, h) }
 
 told-then : (P : List Bool → Type 0) (C D : List ℕ → Type 0) (M M′ M″ : List ℕ) (o o′ : Change) →
-    Kept P M M′ → Told o P C M M′ → Told o′ P D M′ M″ → Told (joined o o′) P (λ (N : List ℕ). C N × D N) M M″
+    Kept P M M′ → MarkTold o P C M M′ → MarkTold o′ P D M′ M″ → MarkTold (joined o o′) P (λ (N : List ℕ). C N × D N) M M″
 told-then P C D M M′ M″ Settled Settled k h h′ = (h′ .0 ∙ h .0, (h .1, subst D (h .0) (h′ .1)))
 told-then P C D M M′ M″ Settled Changed k h h′ = subst (λ (N : List ℕ). unset M″ < unset N) (h .0) h′
 told-then P C D M M′ M″ Settled Clash k h h′ = λ c p a. h′ c p (k .sound c p a)
@@ -46,7 +46,7 @@ told-then P C D M M′ M″ Clash o′ k h h′ = h
 
 -- one step after the other
 pub step-then : {P : List Bool → Type 0} {C D : List ℕ → Type 0} {M M′ M″ : List ℕ} {o o′ : Change} →
-    Step P C M M′ o → Step P D M′ M″ o′ → Step P (λ (N : List ℕ). C N × D N) M M″ (joined o o′)
+    MarkStep P C M M′ o → MarkStep P D M′ M″ o′ → MarkStep P (λ (N : List ℕ). C N × D N) M M″ (joined o o′)
 step-then {P} {C} {D} {M} {M′} {M″} {o} {o′} h k = record {
   kept = kept-then (h .kept) (k .kept);
   told = told-then P C D M M′ M″ o o′ (h .kept) (h .told) (k .told);
@@ -54,21 +54,21 @@ step-then {P} {C} {D} {M} {M′} {M″} {o} {o′} h k = record {
 
 -- a step, read for splits of which more is known, and as bringing about less
 pub step-as : {P Q : List Bool → Type 0} {C D : List ℕ → Type 0} {M M′ : List ℕ} {o : Change} →
-    ((c : List Bool) → Q c → Agrees c M → P c) → (C M → D M) → Step P C M M′ o → Step Q D M M′ o
+    ((c : List Bool) → Q c → Agrees c M → P c) → (C M → D M) → MarkStep P C M M′ o → MarkStep Q D M M′ o
 step-as {P} {Q} {C} {D} {M} {M′} {o} p d h = record {
   kept = record { size = h .kept .size; sound = λ c q a. h .kept .sound c (p c q a) a };
   told = go o (h .told);
 }
   where
-    go : (o : Change) → Told o P C M M′ → Told o Q D M M′
+    go : (o : Change) → MarkTold o P C M M′ → MarkTold o Q D M M′
     go Settled h = (h .0, d (h .1))
     go Changed h = h
     go Clash h = λ c q a. h c (p c q a) a
 
-pub step-for : {P Q : List Bool → Type 0} {C : List ℕ → Type 0} {M M′ : List ℕ} {o : Change} → ((c : List Bool) → Q c → P c) → Step P C M M′ o → Step Q C M M′ o
+pub step-for : {P Q : List Bool → Type 0} {C : List ℕ → Type 0} {M M′ : List ℕ} {o : Change} → ((c : List Bool) → Q c → P c) → MarkStep P C M M′ o → MarkStep Q C M M′ o
 step-for p h = step-as (λ c q a. p c q) (λ d. d) h
 
-pub step-with : {P : List Bool → Type 0} {C D : List ℕ → Type 0} {M M′ : List ℕ} {o : Change} → (C M → D M) → Step P C M M′ o → Step P D M M′ o
+pub step-with : {P : List Bool → Type 0} {C D : List ℕ → Type 0} {M M′ : List ℕ} {o : Change} → (C M → D M) → MarkStep P C M M′ o → MarkStep P D M M′ o
 step-with d h = step-as (λ c q a. q) d h
 
 -- ---- force

@@ -8,8 +8,8 @@ use Rattle.timing.specs.declared.Pair.{Pair}
 use Rattle.timing.specs.Rules.{pairMet}
 use Rattle.timing.proofs.RuleLaws.{test→met, met→test}
 use Rattle.split_laws.specs.declared.Row.{Row}
-use Rattle.split_laws.specs.Split.{timing, meets}
-use Rattle.split_laws.specs.Table.{isLate, row, table, rowAt, rowLaunch, rowCapture, brokenRow, flag, flagAt}
+use Rattle.split_laws.specs.Split.{timeOf, meets}
+use Rattle.split_laws.specs.Table.{isLate, row, rowTable, rowAt, rowLaunch, rowCapture, brokenRow, flag, flagAt}
 
 -- the rule of row k: each end forces the opposite of the other end's choice
 pub record RowIs (k : ℕ) (r : Row) : Type 0 where
@@ -26,7 +26,7 @@ abbrev Right : ℕ → Type 0
 Right k = rowAt k ≡ rowOf k
 
 right : (k : ℕ) → k < 4 → Right k
-unfolding table
+unfolding rowTable
 right = below-more Right 3 (below-more Right 2 (below-more Right 1 (below-more Right 0 (below-none Right) refl) refl) refl) refl
 
 -- each row of the table is as the rule says
@@ -51,6 +51,6 @@ module _ (t s : ℕ) (p : Pair) where
       go true e = refl
 
   -- the flag of row k, from the times of its choices
-  pub flag-is : (k : ℕ) {r : Row} → RowIs k r → {a b : ℕ} → a ≡ timing s (isLate (r .launch)) → b ≡ timing s (isLate (r .capture)) → {m : Bool} → pairMet p t a b ≡ m
+  pub flag-is : (k : ℕ) {r : Row} → RowIs k r → {a b : ℕ} → a ≡ timeOf s (isLate (r .launch)) → b ≡ timeOf s (isLate (r .capture)) → {m : Bool} → pairMet p t a b ≡ m
       → flag (not m) ≡ flagAt t s p k
   flag-is k is ea eb e = rw (← is .launch-is, ← is .capture-is, ← ea, ← eb, e)

@@ -41,14 +41,14 @@ pub record Kept (P : List Bool → Type 0) (M M′ : List ℕ) : Type 0 where
   pub sound : (c : List Bool) → P c → Agrees c M → Agrees c M′
 
 -- what each answer of a step says; C is what the step was to bring about
-abbrev pub Told : Change → (List Bool → Type 0) → (List ℕ → Type 0) → List ℕ → List ℕ → Type 0
-Told Settled P C M M′ = (M′ ≡ M) × C M
-Told Changed P C M M′ = unset M′ < unset M
-Told Clash P C M M′ = (c : List Bool) → P c → Agrees c M → ⊥
+abbrev pub MarkTold : Change → (List Bool → Type 0) → (List ℕ → Type 0) → List ℕ → List ℕ → Type 0
+MarkTold Settled P C M M′ = (M′ ≡ M) × C M
+MarkTold Changed P C M M′ = unset M′ < unset M
+MarkTold Clash P C M M′ = (c : List Bool) → P c → Agrees c M → ⊥
 
-pub record Step (P : List Bool → Type 0) (C : List ℕ → Type 0) (M M′ : List ℕ) (o : Change) : Type 0 where
+pub record MarkStep (P : List Bool → Type 0) (C : List ℕ → Type 0) (M M′ : List ℕ) (o : Change) : Type 0 where
   pub kept : Kept P M M′
-  pub told : Told o P C M M′
+  pub told : MarkTold o P C M M′
 
 -- the answer of two steps
 abbrev pub joined : Change → Change → Change
@@ -60,11 +60,11 @@ joined Clash o = Clash
 
 -- register r is to have mark v
 abbrev pub Forced : ℕ → ℕ → List ℕ → List ℕ → Change → Type 0
-Forced r v = Step (λ (c : List Bool). choice c r ≡ v) (λ (M : List ℕ). getD M r 0 ≡ v)
+Forced r v = MarkStep (λ (c : List Bool). choice c r ≡ v) (λ (M : List ℕ). getD M r 0 ≡ v)
 
 -- a mark `when` at a forces the mark `then` at b
 abbrev pub Followed : ℕ → ℕ → ℕ → ℕ → List ℕ → List ℕ → Change → Type 0
-Followed a when b then = Step (λ (c : List Bool). choice c a ≡ when → choice c b ≡ then) (λ (M : List ℕ). getD M a 0 ≡ when → getD M b 0 ≡ then)
+Followed a when b then = MarkStep (λ (c : List Bool). choice c a ≡ when → choice c b ≡ then) (λ (M : List ℕ). getD M a 0 ≡ when → getD M b 0 ≡ then)
 
 -- ---- one row of one pair
 
@@ -78,11 +78,11 @@ RowClosed a b k M = (getD M a 0 ≡ rowLaunch k → getD M b 0 + rowCapture k �
 
 -- row k is followed where its flag f is 1
 abbrev pub Applied : ℕ → ℕ → ℕ → ℕ → List ℕ → List ℕ → Change → Type 0
-Applied a b k f = Step (λ (c : List Bool). f ≡ 1 → Avoids a b k c) (λ (M : List ℕ). f ≡ 1 → RowClosed a b k M)
+Applied a b k f = MarkStep (λ (c : List Bool). f ≡ 1 → Avoids a b k c) (λ (M : List ℕ). f ≡ 1 → RowClosed a b k M)
 
 -- the capture b is late where the flag f of early, early is 1
 abbrev pub Seeded : ℕ → ℕ → List ℕ → List ℕ → Change → Type 0
-Seeded b f = Step (λ (c : List Bool). f ≡ 1 → choice c b ≡ late) (λ (M : List ℕ). f ≡ 1 → getD M b 0 ≡ late)
+Seeded b f = MarkStep (λ (c : List Bool). f ≡ 1 → choice c b ≡ late) (λ (M : List ℕ). f ≡ 1 → getD M b 0 ≡ late)
 
 -- ---- one pair
 
@@ -106,10 +106,10 @@ abbrev pub RowsClosed : ℕ → ℕ → ℕ → Pair → List ℕ → Type 0
 RowsClosed k t s p M = (i : ℕ) → i < k → brokenRow t s p i ≡ true → RowClosed (p .launch) (p .capture) i M
 
 -- no broken choice of the pair forces more, and its capture is late where early, early is broken
-pub record Closed (t s : ℕ) (p : Pair) (M : List ℕ) : Type 0 where
+pub record MarksClosed (t s : ℕ) (p : Pair) (M : List ℕ) : Type 0 where
   pub rows : RowsClosed 4 t s p M
   pub seeded : brokenRow t s p 0 ≡ true → getD M (p .capture) 0 ≡ late
 
 -- all that the flags force is followed
 abbrev pub Settles : Pair → List ℕ → List ℕ → List ℕ → Change → Type 0
-Settles p fs = Step (Keeps p fs) (λ (M : List ℕ). (t s : ℕ) → Flagged t s p fs → Closed t s p M)
+Settles p fs = MarkStep (Keeps p fs) (λ (M : List ℕ). (t s : ℕ) → Flagged t s p fs → MarksClosed t s p M)

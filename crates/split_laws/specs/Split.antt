@@ -6,17 +6,17 @@ use Rattle.timing.specs.declared.Pair.{Pair}
 use Rattle.timing.specs.Rules.{pairMet, admissible}
 
 -- a register's choice: false is early, which is time 0; true is late, which is the offset s
-abbrev pub timing : ℕ → Bool → ℕ
-timing s false = 0
-timing s true = s
+abbrev pub timeOf : ℕ → Bool → ℕ
+timeOf s false = 0
+timeOf s true = s
 
 -- a split is a choice for each register; this is its schedule at the offset s
 abbrev pub timings : ℕ → List Bool → List ℕ
-timings s c = map (timing s) c
+timings s c = map (timeOf s) c
 
 -- a pair with choice a at its launch and b at its capture meets both rules at period t and offset s
 abbrev pub meets : ℕ → ℕ → Pair → Bool → Bool → Bool
-meets t s p a b = pairMet p t (timing s a) (timing s b)
+meets t s p a b = pairMet p t (timeOf s a) (timeOf s b)
 
 -- the choice breaks a rule
 abbrev pub broken : ℕ → ℕ → Pair → Bool → Bool → Bool

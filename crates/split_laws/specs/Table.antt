@@ -26,8 +26,8 @@ isLate x = eqb x late
 abbrev pub row : ℕ → ℕ → ℕ → ℕ → Row
 row a b forcedCapture forcedLaunch = record { launch = a; capture = b; «forced_capture» = forcedCapture; «forced_launch» = forcedLaunch }
 
-unfoldable pub table : List Row
-table =
+unfoldable pub rowTable : List Row
+rowTable =
     row early early late late
     ∷ row early late early late
     ∷ row late early late early
@@ -35,7 +35,7 @@ table =
     ∷ []
 
 abbrev pub rowAt : ℕ → Row
-rowAt k = getD table k (row 0 0 0 0)
+rowAt k = getD rowTable k (row 0 0 0 0)
 
 -- the choices of row k
 abbrev pub rowLaunch : ℕ → ℕ

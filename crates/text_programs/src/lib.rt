@@ -34,8 +34,8 @@ pub fn show_list(input: i32) {
 pub fn free_schedule_of(input: i32) {
     let mut bytes = [0u8; MAX_BYTES + 1];
     let got = io::read_full(input, &mut bytes);
-    let mut text = [0u8; job_text::TEXT_PLACES];
-    let count = job_text::free_text(&bytes[..got], &mut text);
+    let mut text = [0u8; schedule_text::TEXT_PLACES];
+    let count = schedule_text::free_text(&bytes[..got], &mut text);
     io::write_all(STDOUT_FILENO, &text[..count]);
 }
 
@@ -43,8 +43,8 @@ pub fn free_schedule_of(input: i32) {
 pub fn print_split(input: i32, period: u32, offset: u32) {
     let mut bytes = [0u8; MAX_BYTES + 1];
     let got = io::read_full(input, &mut bytes);
-    let mut text = [0u8; job_text::TEXT_PLACES];
-    let count = job_text::split_text(&bytes[..got], period, offset, &mut text);
+    let mut text = [0u8; schedule_text::TEXT_PLACES];
+    let count = schedule_text::split_text(&bytes[..got], period, offset, &mut text);
     io::write_all(STDOUT_FILENO, &text[..count]);
 }
 

@@ -1,6 +1,6 @@
 use native.Mathlib.Omega.{arith}
 use Rattle.checker.specs.Check.{ruleNumber}
-use Rattle.pieces.proofs.PutLaws.{put-then}
+use Rattle.text_pieces.proofs.PutLaws.{put-then}
 use Rattle.check_text.proofs.CheckTextLaws.{pair-put}
 use borrow.Author.Needs.{needs}
 use Rattle.check_text.proofs.put_broken.Statement.{statement}

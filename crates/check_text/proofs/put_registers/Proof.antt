@@ -1,4 +1,4 @@
-use Rattle.pieces.proofs.PutLaws.{put-then}
+use Rattle.text_pieces.proofs.PutLaws.{put-then}
 use borrow.Author.Needs.{needs}
 use Rattle.check_text.proofs.put_registers.Statement.{statement}
 use Rattle.check_text.proofs.put_registers.Tie as tie

@@ -1,7 +1,7 @@
 -- One answer for each rule.
 use native.Mathlib.Omega.{arith}
 use Rattle.checker.specs.Check.{ruleNumber}
-use Rattle.pieces.proofs.PutLaws.{put-as}
+use Rattle.text_pieces.proofs.PutLaws.{put-as}
 use Rattle.check_text.specs.CheckText.{ruleWords}
 use borrow.Author.Needs.{needs}
 use Rattle.check_text.proofs.put_rule.Statement.{statement}

@@ -2,35 +2,35 @@
 use Prim.Native.Nat.{_-_}
 use mathlib.Core.Path.{sym, _∙_}
 use native.Mathlib.Omega.{arith}
-use Rattle.refusals.proofs.CheckLaws.{Walking, walking-start, walking-turn, walking-stops, walking-end}
+use Rattle.refusals.proofs.CheckLaws.{Remaining, remaining-start, remaining-turn, remaining-stops, remaining-end}
 use Rattle.list_format.specs.Lists.{pairPlace, pairChecks, endChecks}
 use borrow.Author.Needs.{needs}
 use Rattle.delay_list.proofs.body_fault.Statement.{statement}
 use Rattle.delay_list.proofs.body_fault.Tie as tie
 
 abbrev Inv-loop : tie.InvT-loop
-Inv-loop words n m k₀ k = Walking (pairChecks words n) (endChecks words (pairPlace m)) m k
+Inv-loop words n m k₀ k = Remaining (pairChecks words n) (endChecks words (pairPlace m)) m k
 
 abbrev μ-loop : tie.MeasureT-loop
 μ-loop words n m k₀ k = m - k
 
 loop-holds : tie.Need-loop-holds Inv-loop μ-loop
-loop-holds c = walking-start _ _ _
+loop-holds c = remaining-start _ _ _
 
 returns : tie.Need-returns Inv-loop μ-loop
 returns c =
     let at = c .before .before .before .before .before .loop in
-    sym (walking-stops _ _ _ (at .inv) (omega arith) (sym (c .before .before .before .pair-fault .ensures) ∙ c .before .found .given .1))
+    sym (remaining-stops _ _ _ (at .inv) (omega arith) (sym (c .before .before .before .pair-fault .ensures) ∙ c .before .found .given .1))
 
 loop-again : tie.Need-loop-again Inv-loop μ-loop
 loop-again c =
     let at = c .before .before .before .before .loop in
-    walking-turn _ _ _ (at .inv) (omega arith) (sym (c .before .before .pair-fault .ensures) ∙ c .enum-told .given .1)
+    remaining-turn _ _ _ (at .inv) (omega arith) (sym (c .before .before .pair-fault .ensures) ∙ c .enum-told .given .1)
 
 returns-2 : tie.Need-returns-2 Inv-loop μ-loop
 returns-2 c =
     let at = c .before .before .before .loop in
-    rw (c .end-fault .ensures, c .before .pair-place .ensures) (sym (walking-end _ _ _ (at .inv) (omega arith)))
+    rw (c .end-fault .ensures, c .before .pair-place .ensures) (sym (remaining-end _ _ _ (at .inv) (omega arith)))
 
 pub body-fault-spec : {M : Type 1} → statement M
 body-fault-spec =

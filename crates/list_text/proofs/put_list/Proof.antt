@@ -1,5 +1,5 @@
 use native.Mathlib.Omega.{arith}
-use Rattle.pieces.proofs.PutLaws.{put-then, put-within}
+use Rattle.text_pieces.proofs.PutLaws.{put-then, put-within}
 use Rattle.list_text.specs.ListText.{textOf}
 use borrow.Author.Needs.{needs}
 use Rattle.list_text.proofs.put_list.Statement.{statement}

@@ -1,4 +1,4 @@
-use Rattle.pieces.proofs.PutLaws.{put-then}
+use Rattle.text_pieces.proofs.PutLaws.{put-then}
 use borrow.Author.Needs.{needs}
 use Rattle.list_text.proofs.put_pair.Statement.{statement}
 use Rattle.list_text.proofs.put_pair.Tie as tie

@@ -1,7 +1,7 @@
 -- Pair after pair.
 use Prim.Native.Nat.{_-_}
 use native.Mathlib.Omega.{arith}
-use Rattle.pieces.proofs.PutLaws.{Listing, listing-start, listing-room, listing-turn, listing-end, put-size}
+use Rattle.text_pieces.proofs.PutLaws.{Listing, listing-start, listing-room, listing-turn, listing-end, put-size}
 use Rattle.list_text.specs.ListText.{pairLine}
 use borrow.Author.Needs.{needs}
 use Rattle.list_text.proofs.put_pairs.Statement.{statement}

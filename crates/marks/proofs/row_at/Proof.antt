@@ -1,12 +1,12 @@
 -- `row_at`: the constant is the table.
 use mathlib.Core.Path.{refl}
-use Rattle.split_laws.specs.Table.{table}
+use Rattle.split_laws.specs.Table.{rowTable}
 use borrow.Author.Needs.{needs}
 use Rattle.marks.proofs.row_at.Statement.{statement}
 use Rattle.marks.proofs.row_at.Tie as tie
 
 returns : tie.Need-returns
-unfolding table
+unfolding rowTable
 returns c = refl
 
 pub row-at-spec : {M : Type 1} → statement M

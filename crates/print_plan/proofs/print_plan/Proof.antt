@@ -1,4 +1,4 @@
-use Rattle.pieces.proofs.PutLaws.{put-lent, lent-size}
+use Rattle.text_pieces.proofs.PutLaws.{put-lent, lent-size}
 use borrow.Author.Needs.{needs}
 use Rattle.print_plan.proofs.print_plan.Statement.{statement}
 use Rattle.print_plan.proofs.print_plan.Tie as tie

@@ -6,13 +6,13 @@ use native.Mathlib.Omega.{arith}
 use Rattle.list_format.specs.Lists.{pairCount}
 use Rattle.propagate.specs.Passes.{Pass}
 use Rattle.propagate.proofs.StoreLaws.{lent-kept}
-use Rattle.propagate.proofs.PassLaws.{ClosedTo, sweep-start, sweep-turn, sweep-end}
+use Rattle.propagate.proofs.PassLaws.{MarksClosedTo, sweep-start, sweep-turn, sweep-end}
 use borrow.Author.Needs.{needs}
 use Rattle.propagate.proofs.sweep.Statement.{statement}
 use Rattle.propagate.proofs.sweep.Tie as tie
 
 abbrev Inv-loop : tie.InvT-loop
-Inv-loop words n m down scratch₀ all₀ i₀ scratch all i = (i ≤ m) × Pass words n (ClosedTo words down i) scratch₀ scratch all
+Inv-loop words n m down scratch₀ all₀ i₀ scratch all i = (i ≤ m) × Pass words n (MarksClosedTo words down i) scratch₀ scratch all
 
 abbrev μ-loop : tie.MeasureT-loop
 μ-loop words n m down scratch₀ all₀ i₀ scratch all i = m - i

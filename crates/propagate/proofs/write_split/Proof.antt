@@ -6,7 +6,7 @@ use Prim.Native.Nat.{_-_, _<_}
 use native.Mathlib.Omega.{arith}
 use lib.ListN.{length, getD}
 use Rattle.buffers.proofs.FillLaws.{Filling, filled-none, filling-start, filling-size, filling-end, filling-turn, set-put}
-use Rattle.split_laws.specs.Split.{timing}
+use Rattle.split_laws.specs.Split.{timeOf}
 use Rattle.split_laws.specs.Table.{isLate}
 use Rattle.propagate.proofs.StoreLaws.{timings-run}
 use borrow.Author.Needs.{needs}
@@ -14,7 +14,7 @@ use Rattle.propagate.proofs.write_split.Statement.{statement}
 use Rattle.propagate.proofs.write_split.Tie as tie
 
 abbrev Inv-loop : tie.InvT-loop
-Inv-loop marks n offset answer₀ i₀ answer i = Filling [] (λ k. timing offset (isLate (getD marks k 0)) ∷ []) n answer₀ answer i
+Inv-loop marks n offset answer₀ i₀ answer i = Filling [] (λ k. timeOf offset (isLate (getD marks k 0)) ∷ []) n answer₀ answer i
 
 abbrev μ-loop : tie.MeasureT-loop
 μ-loop marks n offset answer₀ i₀ answer i = n - i

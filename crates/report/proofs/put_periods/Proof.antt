@@ -1,5 +1,5 @@
 -- Four names with their numbers make the line.
-use Rattle.pieces.proofs.PutLaws.{put-then}
+use Rattle.text_pieces.proofs.PutLaws.{put-then}
 use Rattle.report.specs.Report.{periodsLine}
 use borrow.Author.Needs.{needs}
 use Rattle.report.proofs.put_periods.Statement.{statement}

@@ -1,4 +1,4 @@
-use Rattle.pieces.proofs.PutLaws.{put-then}
+use Rattle.text_pieces.proofs.PutLaws.{put-then}
 use borrow.Author.Needs.{needs}
 use Rattle.report.proofs.put_register.Statement.{statement}
 use Rattle.report.proofs.put_register.Tie as tie

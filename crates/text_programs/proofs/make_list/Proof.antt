@@ -1,6 +1,6 @@
 -- The count that is returned can be lent, in either case.
 use mathlib.Core.Path.{ap}
-use Rattle.pieces.proofs.PutLaws.{put-lent, lent-size}
+use Rattle.text_pieces.proofs.PutLaws.{put-lent, lent-size}
 use Rattle.list_text.proofs.ListTextLaws.{countOf, made-put}
 use borrow.Author.Needs.{needs}
 use Rattle.text_programs.proofs.make_list.Statement.{statement}

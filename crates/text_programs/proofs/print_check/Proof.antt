@@ -1,4 +1,4 @@
-use Rattle.pieces.proofs.PutLaws.{put-lent, lent-size}
+use Rattle.text_pieces.proofs.PutLaws.{put-lent, lent-size}
 use borrow.Author.Needs.{needs}
 use Rattle.text_programs.proofs.print_check.Statement.{statement}
 use Rattle.text_programs.proofs.print_check.Tie as tie

@@ -5,7 +5,7 @@ use mathlib.Core.Path.{sym, _∙_}
 use native.Mathlib.Omega.{arith}
 use lib.Dec.{ltb}
 use Rattle.refusals.specs.Checks.{orCheck, faultAfter}
-use Rattle.refusals.proofs.CheckLaws.{Walking, walking-start, walking-turn, walking-stops, walking-end}
+use Rattle.refusals.proofs.CheckLaws.{Remaining, remaining-start, remaining-turn, remaining-stops, remaining-end}
 use Rattle.list_format.specs.Lists.{pairPlace}
 use Rattle.list_format.specs.Write.{givenChecks}
 use borrow.Author.Needs.{needs}
@@ -13,31 +13,31 @@ use Rattle.write_list.proofs.body_fault.Statement.{statement}
 use Rattle.write_list.proofs.body_fault.Tie as tie
 
 abbrev Inv-loop : tie.InvT-loop
-Inv-loop n numbers m room k₀ k = Walking (givenChecks n numbers) ((ltb room (pairPlace m + 1), 2, 0) ∷ []) m k
+Inv-loop n numbers m room k₀ k = Remaining (givenChecks n numbers) ((ltb room (pairPlace m + 1), 2, 0) ∷ []) m k
 
 abbrev μ-loop : tie.MeasureT-loop
 μ-loop n numbers m room k₀ k = m - k
 
 loop-holds : tie.Need-loop-holds Inv-loop μ-loop
-loop-holds c = walking-start _ _ _
+loop-holds c = remaining-start _ _ _
 
 returns : tie.Need-returns Inv-loop μ-loop
 returns c =
     let at = c .before .before .before .before .before .before .loop in
     let found = sym (c .before .before .before .value-fault .ensures) ∙ c .before .found .given .1 in
-    sym (walking-stops _ _ _ (at .inv) (omega arith) (rw (c .before .before .before .before .given-pair .ensures) at found))
+    sym (remaining-stops _ _ _ (at .inv) (omega arith) (rw (c .before .before .before .before .given-pair .ensures) at found))
 
 loop-again : tie.Need-loop-again Inv-loop μ-loop
 loop-again c =
     let at = c .before .before .before .before .before .loop in
     let found = sym (c .before .before .value-fault .ensures) ∙ c .enum-told .given .1 in
-    walking-turn _ _ _ (at .inv) (omega arith) (rw (c .before .before .before .given-pair .ensures) at found)
+    remaining-turn _ _ _ (at .inv) (omega arith) (rw (c .before .before .before .given-pair .ensures) at found)
 
 returns-2 : tie.Need-returns-2 Inv-loop μ-loop
 unfolding orCheck faultAfter
 returns-2 c =
     let at = c .before .before .before .loop in
-    rw (c .or .ensures, c .before .pair-place .ensures) (sym (walking-end _ _ _ (at .inv) (omega arith)))
+    rw (c .or .ensures, c .before .pair-place .ensures) (sym (remaining-end _ _ _ (at .inv) (omega arith)))
 
 pub body-fault-spec : {M : Type 1} → statement M
 body-fault-spec =

@@ -1,6 +1,6 @@
 use mathlib.Core.Path.{_∙_}
 use Rattle.scan.proofs.CaseLaws.{finish-stays, finish-faulty, finish-none, finish-some}
-use Rattle.scan.proofs.StateLaws.{closed-in}
+use Rattle.scan.proofs.StateLaws.{ended-in}
 use borrow.Author.Needs.{needs}
 use Rattle.scan.proofs.State.finish.Statement.{statement}
 use Rattle.scan.proofs.State.finish.Tie as tie
@@ -21,7 +21,7 @@ returns-3 c =
 end-line-requires : tie.Need-end-line-requires
 end-line-requires c κs =
     let w = c .before .before .before .before in
-    rw (w .close .ensures) (closed-in _ (w .before .before .before .pre))
+    rw (w .close .ensures) (ended-in _ (w .before .before .before .pre))
 
 returns-4 : tie.Need-returns-4
 returns-4 c =

@@ -1,6 +1,6 @@
 use mathlib.Core.Path.{_∙_}
 use Rattle.scan.proofs.CaseLaws.{step-stays, step-space, step-newline, step-low, step-high, step-digit}
-use Rattle.scan.proofs.StateLaws.{closed-in}
+use Rattle.scan.proofs.StateLaws.{ended-in}
 use borrow.Author.Needs.{needs}
 use Rattle.scan.proofs.State.step.Statement.{statement}
 use Rattle.scan.proofs.State.step.Tie as tie
@@ -12,7 +12,7 @@ returns-2 : tie.Need-returns-2
 returns-2 c = c .close .ensures ∙ step-space _ _ (c .before .before .if1 .left) (c .before .if2 .taken)
 
 end-line-requires : tie.Need-end-line-requires
-end-line-requires c κs = rw (c .close2 .ensures) (closed-in _ (c .before .before .before .before .before .pre))
+end-line-requires c κs = rw (c .close2 .ensures) (ended-in _ (c .before .before .before .before .before .pre))
 
 returns-3 : tie.Need-returns-3
 returns-3 c =

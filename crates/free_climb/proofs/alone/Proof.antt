@@ -1,0 +1,14 @@
+-- `alone` is no more than any period at which the pair can meet its rules.
+use native.Mathlib.Omega.{arith}
+use borrow.Author.Needs.{needs}
+use Rattle.free_climb.proofs.alone.Statement.{statement}
+use Rattle.free_climb.proofs.alone.Tie as tie
+
+returns : tie.Need-returns
+returns c = record { under = λ u a b same s h. omega (arith, same (c .if1 .taken)) }
+
+returns-2 : tie.Need-returns-2
+returns-2 c = record { under = λ u a b same s h. omega arith }
+
+pub alone-spec : {M : Type 1} → statement M
+alone-spec = tie.close (tie.spec returns (λ c κs. search needs) returns-2)

@@ -1,0 +1,32 @@
+-- `ordered`: the climb in one order, and if need be in every one.
+use denote.Ref.{now}
+use mathlib.Core.Path.{sym, _∙_}
+use native.Mathlib.Omega.{arith}
+use Rattle.list_format.proofs.ListLaws.{accepted-in}
+use Rattle.free_climb.proofs.ClimbLaws.{trial-of}
+use borrow.Author.Needs.{needs}
+use Rattle.free_climb.proofs.ordered.Statement.{statement}
+use Rattle.free_climb.proofs.ordered.Tie as tie
+
+lay-out-requires : tie.Need-lay-out-requires
+lay-out-requires c κs =
+    let b = c .before .before .before in
+    let r = b .pre .ready in
+    (r .accepted, (r .counted, omega (arith, r .timed, accepted-in (now (b .args .words)) (r .accepted) .head .most)))
+
+finish-requires : tie.Need-finish-requires
+finish-requires c κs =
+    let p = c .before .before .before .before .before .before .before .before .before .before .before .before .before .before .pre in
+    let a = c .before .before .before .before .before .before .ascend in
+    let u = a .ensures .undecided _ (c .before .before .period2 .given .1) in
+    trial-of (p .ready) (a .kept .1 .1 .0 ∙ p .ready .timed) (u .0) (u .1)
+
+returns : tie.Need-returns
+returns c = c .before .before .before .before .before .ascend .ensures .settled _ (c .before .period .given .1)
+
+pub ordered-spec : {M : Type 1} → statement M
+ordered-spec =
+    tie.close
+    (tie.spec
+    (λ c. search needs) lay-out-requires (λ c. search needs) (λ c κs. search needs) (λ c. search needs) (λ c. search needs)
+    finish-requires (λ c. search needs) returns (λ c. search needs) (λ c. search needs))

@@ -1,0 +1,130 @@
+// The common period, the free period and the free schedule of an accepted list; the free period by trials of longer and
+// longer periods.
+// The contracts cite `specs/Climbed.antt` and the laws of `free_laws`.
+ghost use mathlib.Core.Path.{_≡_};
+ghost use Prim.Native.Nat.{_-_, _≤_, max};
+ghost use Rattle.list_format.specs.Lists.{pairCount, pairs, IsAccepted};
+ghost use Rattle.free_laws.specs.Free.{common as commonOf};
+ghost use Rattle.free_laws.specs.Constraint.{Bound};
+ghost use Rattle.checker.specs.Check.{Ready};
+ghost use Rattle.free_trials.specs.Trial.{Trial};
+ghost use Rattle.free_climb.specs.Climbed.{Alone, Climbed, Ascended};
+use timing::MAX_PAIRS;
+use timing::Pair;
+use timing::larger;
+use timing::less;
+
+// Rounds of a trial before the pairs are put in another order.
+const FEW: usize = 7;
+
+// What a pair alone asks of the period. One that joins a register to itself has no times to shift.
+fn alone(p: Pair) -> u32
+    ensures { λ r. ⌜ Alone p r ⌝ }
+{
+    if p.launch == p.capture {
+        return p.greatest;
+    }
+    less(p.greatest, p.least)
+}
+
+// The longest period that a pair alone asks for, or 1.
+fn lowest(words: &[u32], count: usize) -> u32
+    requires { ⌜ IsAccepted (now words) ⌝ }
+    requires { ⌜ count ≡ pairCount (now words) ⌝ }
+    ensures from { λ r. ⌜ 1 ≤ r ⌝ }
+    ensures bound { λ r. ⌜ Bound (pairs (now (words .entry))) r ⌝ }
+{
+    let mut most = 1;
+    let mut k = 0;
+    while k < count {
+        let p = delay_list::pair_at(words, k);
+        most = larger(most, alone(p));
+        k += 1;
+    }
+    most
+}
+
+// The common period: the largest greatest delay, or 1.
+pub fn common(words: &[u32], count: usize) -> u32
+    requires { ⌜ IsAccepted (now words) ⌝ }
+    requires { ⌜ count ≡ pairCount (now words) ⌝ }
+    ensures { λ r. ⌜ r ≡ commonOf (pairs (now (words .entry))) ⌝ }
+{
+    let mut most = 1;
+    let mut k = 0;
+    while k < count {
+        let p = delay_list::pair_at(words, k);
+        most = larger(most, p.greatest);
+        k += 1;
+    }
+    most
+}
+
+// What trials come to: the free period, with the free schedule, or a period that they leave undecided.
+pub enum Ascent {
+    Done(u32),
+    Undecided(u32),
+}
+
+// Trials of longer and longer periods, by so many rounds each at most, in an order that is only a hint.
+fn ascend(
+    words: &[u32],
+    count: usize,
+    x: &mut [u32],
+    order: &[usize],
+    most: usize,
+    start: u32,
+) -> Ascent
+    requires { ⌜ Trial (now words) count start (now x) ⌝ }
+    ensures { λ r. ⌜ Ascended (now (words .entry)) (now (x .exit)) r ⌝ }
+{
+    let mut period = start;
+    let mut next = free_trials::quick(words, count, x, order, most, period);
+    while period < next {
+        period = next;
+        next = free_trials::quick(words, count, x, order, most, period);
+    }
+    if next < period {
+        return Ascent::Undecided(period);
+    }
+    Ascent::Done(period)
+}
+
+// The same by rounds over all pairs, which leave nothing undecided.
+fn finish(words: &[u32], count: usize, x: &mut [u32], start: u32) -> u32
+    requires { ⌜ Trial (now words) count start (now x) ⌝ }
+    ensures { λ r. ⌜ Climbed (now (words .entry)) (now (x .exit)) r ⌝ }
+{
+    let mut period = start;
+    let mut next = free_trials::steady(words, count, x, period);
+    while period < next {
+        period = next;
+        next = free_trials::steady(words, count, x, period);
+    }
+    period
+}
+
+// The climb in the order of a walk along the pairs.
+fn ordered(words: &[u32], count: usize, x: &mut [u32], start: u32) -> u32
+    requires { ⌜ Trial (now words) count start (now x) ⌝ }
+    ensures { λ r. ⌜ Climbed (now (words .entry)) (now (x .exit)) r ⌝ }
+{
+    let mut order = [0usize; MAX_PAIRS];
+    free_order::lay_out(words, count, x.len(), &mut order);
+    match ascend(words, count, x, &order, x.len(), start) {
+        Ascent::Done(period) => period,
+        Ascent::Undecided(period) => finish(words, count, x, period),
+    }
+}
+
+// The free period; the free schedule fills x. A few rounds in the order of the list are enough for most lists.
+pub fn climb(words: &[u32], count: usize, x: &mut [u32]) -> u32
+    requires { ⌜ Ready (now words) count (now x) ⌝ }
+    ensures { λ r. ⌜ Climbed (now (words .entry)) (now (x .exit)) r ⌝ }
+{
+    let none = [0usize; 1];
+    match ascend(words, count, x, &none, FEW, lowest(words, count)) {
+        Ascent::Done(period) => period,
+        Ascent::Undecided(period) => ordered(words, count, x, period),
+    }
+}

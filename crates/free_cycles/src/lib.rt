@@ -1,0 +1,141 @@
+// A cycle of rules of a delay list bounds the period: what its rules ask for in all must fit into what they leave.
+// The contracts cite `specs/Tracing.antt` and the laws of `free_laws`.
+ghost use mathlib.Core.Path.{_≡_};
+ghost use Prim.Native.Nat.{ℕ, _+_, _*_, _≤_, _<_};
+ghost use Rattle.timing.specs.Limits.{maxDelay};
+ghost use Rattle.list_format.specs.Lists.{registers, pairs};
+ghost use Rattle.free_laws.specs.Constraint.{Bound};
+ghost use Rattle.free_cycles.specs.Tracing.{Walkable, Traced, Further};
+use free_rounds::PARENTS;
+use timing::Pair;
+
+// A walk back along rules, from the register `start` to the register `at`: what the rules ask for, what they leave,
+// and how many of them are setup.
+pub struct Trail {
+    pub start: u32,
+    pub at: u32,
+    pub steps: usize,
+    pub gain: u32,
+    pub allowance: u32,
+    pub setups: u32,
+}
+
+impl Trail {
+    fn standing(at: u32) -> Trail
+        ensures { λ r. ⌜ (r .start ≡ at) × (r .at ≡ at) × (r .steps ≡ 0) × (r .gain ≡ 0) × (r .allowance ≡ 0) × (r .setups ≡ 0) ⌝ }
+    {
+        Trail {
+            start: at,
+            at,
+            steps: 0,
+            gain: 0,
+            allowance: 0,
+            setups: 0,
+        }
+    }
+}
+
+// One step back, along rule 2k, setup of pair k, or 2k + 1, its hold. What is no rule into the register where the walk
+// stands ends it.
+fn along(words: &[u32], count: usize, n: usize, rule: u32, w: Trail) -> Trail
+    requires { ⌜ Walkable (now words) count n ⌝ }
+    requires { ⌜ Traced (now words) n w ⌝ }
+    requires { ⌜ w .steps < n ⌝ }
+    ensures { λ r. ⌜ Further (now (words .entry)) n w r ⌝ }
+{
+    let k = (rule / 2) as usize;
+    if k < count {
+        let p = delay_list::pair_at(words, k);
+        if rule % 2 == 0 {
+            if p.capture == w.at {
+                return Trail {
+                    start: w.start,
+                    at: p.launch,
+                    steps: w.steps + 1,
+                    gain: w.gain + p.greatest,
+                    allowance: w.allowance,
+                    setups: w.setups + 1,
+                };
+            }
+        } else if p.launch == w.at {
+            return Trail {
+                start: w.start,
+                at: p.capture,
+                steps: w.steps + 1,
+                gain: w.gain,
+                allowance: w.allowance + p.least,
+                setups: w.setups,
+            };
+        }
+    }
+    Trail {
+        start: w.start,
+        at: w.at,
+        steps: n,
+        gain: w.gain,
+        allowance: w.allowance,
+        setups: w.setups,
+    }
+}
+
+// One step back, along the rule that raised the register last.
+fn back(words: &[u32], count: usize, n: usize, parents: &[u32; PARENTS], w: Trail) -> Trail
+    requires { ⌜ Walkable (now words) count n ⌝ }
+    requires { ⌜ Traced (now words) n w ⌝ }
+    requires { ⌜ w .steps < n ⌝ }
+    ensures { λ r. ⌜ Further (now (words .entry)) n w r ⌝ }
+{
+    let at = w.at as usize;
+    along(words, count, n, parents[at], w)
+}
+
+// Where n steps back lead from a register.
+fn origin(words: &[u32], count: usize, n: usize, parents: &[u32; PARENTS], last: u32) -> u32
+    requires { ⌜ Walkable (now words) count n ⌝ }
+    requires { ⌜ last < registers (now words) ⌝ }
+    ensures { λ r. ⌜ r < registers (now (words .entry)) ⌝ }
+{
+    let mut w = Trail::standing(last);
+    while w.steps < n {
+        w = back(words, count, n, parents, w);
+    }
+    w.at
+}
+
+// The least period for which a walk that came back to its start is no contradiction; 0 for any other walk.
+fn needed(w: Trail) -> u32
+    requires { ⌜ w .gain ≤ maxDelay * w .setups ⌝ }
+    ensures { λ r. ⌜ ((u : ℕ) → (w .at ≡ w .start → w .gain ≤ w .allowance + w .setups * u) → r ≤ u) ⌝ }
+{
+    if w.at == w.start {
+        if w.allowance < w.gain {
+            return (w.gain - w.allowance - 1) / w.setups + 1;
+        }
+    }
+    0
+}
+
+// The period that the cycle of parents through a register asks for; 0 if it is on none.
+fn around(words: &[u32], count: usize, n: usize, parents: &[u32; PARENTS], start: u32) -> u32
+    requires { ⌜ Walkable (now words) count n ⌝ }
+    requires { ⌜ 0 < n ⌝ }
+    requires { ⌜ start < registers (now words) ⌝ }
+    ensures { λ r. ⌜ Bound (pairs (now (words .entry))) r ⌝ }
+{
+    let mut w = back(words, count, n, parents, Trail::standing(start));
+    while w.at != start && w.steps < n {
+        w = back(words, count, n, parents, w);
+    }
+    needed(w)
+}
+
+// A period below which there is no schedule, shown by the cycle of parents behind a register; 0 if there is none.
+pub fn cycle(words: &[u32], count: usize, n: usize, parents: &[u32; PARENTS], last: u32) -> u32
+    requires { ⌜ Walkable (now words) count n ⌝ }
+    requires { ⌜ 0 < n ⌝ }
+    requires { ⌜ last < registers (now words) ⌝ }
+    ensures { λ r. ⌜ Bound (pairs (now (words .entry))) r ⌝ }
+{
+    let start = origin(words, count, n, parents, last);
+    around(words, count, n, parents, start)
+}

@@ -1,0 +1,147 @@
+// Raises a schedule as far as the rules of a delay list ask, one round over the pairs at a time, in place.
+// The contracts cite `specs/Raise.antt` and the laws of `free_laws`.
+ghost use mathlib.Core.Path.{_≡_};
+ghost use Prim.Native.Nat.{_-_, _≤_, _<_, min};
+ghost use lib.ListN.{length};
+ghost use Rattle.timing.specs.Limits.{maxDelay, maxTiming};
+ghost use Rattle.list_format.specs.Lists.{pairs};
+ghost use Rattle.free_laws.specs.Constraint.{constraints};
+ghost use Rattle.free_laws.specs.Raise.{raiseTo, relaxTo, Risen, RoundTo};
+ghost use Rattle.free_rounds.specs.Raise.{Raisable, Relaxable, Raising};
+use timing::Pair;
+use timing::smaller;
+
+// Places for the parent of each register: the rule that raised it last, 2k for setup of pair k and 2k + 1 for its hold.
+pub const PARENTS: usize = timing::MAX_REGISTERS as usize;
+
+// Register r raised until it is at least v with the allowance added, but not past the limit of a timing.
+// The answer is the register raised last.
+fn raise(
+    x: &mut [u32],
+    parents: &mut [u32; PARENTS],
+    r: usize,
+    v: u32,
+    allowance: u32,
+    rule: u32,
+    last: usize,
+) -> usize
+    requires { ⌜ Raisable (now x) ⌝ }
+    requires { ⌜ r < length (now x) ⌝ }
+    requires { ⌜ allowance ≤ maxDelay ⌝ }
+    ensures { λ u. ⌜ now (x .exit) ≡ raiseTo maxTiming r (v - allowance) (now (x .entry)) ⌝ }
+{
+    if x[r] + allowance < v {
+        x[r] = smaller(timing::MAX_TIMING, v - allowance);
+        parents[r] = rule;
+        return r;
+    }
+    last
+}
+
+// Both rules of pair k at a period: the capture register is raised as far as setup asks, then the launch register as
+// far as hold asks. The answer is the register raised last.
+fn relax(
+    x: &mut [u32],
+    parents: &mut [u32; PARENTS],
+    p: Pair,
+    period: u32,
+    k: usize,
+    last: usize,
+) -> usize
+    requires { ⌜ Relaxable (now x) p period k ⌝ }
+    ensures { λ u. ⌜ now (x .exit) ≡ relaxTo maxTiming period p (now (x .entry)) ⌝ }
+{
+    let rule = 2 * (k as u32);
+    let a = p.launch as usize;
+    let b = p.capture as usize;
+    let from = x[a];
+    let first = raise(x, parents, b, from + p.greatest, period, rule, last);
+    let to = x[b];
+    raise(x, parents, a, to, p.least, rule + 1, first)
+}
+
+// One round over the pairs, up or down the list. The answer is the register raised last, or the count of registers
+// if none was.
+pub fn round(
+    words: &[u32],
+    count: usize,
+    x: &mut [u32],
+    parents: &mut [u32; PARENTS],
+    period: u32,
+    down: bool,
+) -> usize
+    requires { ⌜ Raising (now words) count period (now x) ⌝ }
+    ensures { λ u. ⌜ RoundTo maxTiming (constraints period (pairs (now (words .entry)))) (now (x .entry)) (now (x .exit)) ⌝ }
+{
+    let mut last = x.len();
+    let mut i = 0;
+    while i < count {
+        let k = delay_list::place(count, i, down);
+        let p = delay_list::pair_at(words, k);
+        last = relax(x, parents, p, period, k, last);
+        i += 1;
+    }
+    last
+}
+
+// Both rules of pair k at a period, if the list has one. The answer is that of `relax`.
+fn relax_at(
+    words: &[u32],
+    count: usize,
+    x: &mut [u32],
+    parents: &mut [u32; PARENTS],
+    period: u32,
+    k: usize,
+    last: usize,
+) -> usize
+    requires { ⌜ Raising (now words) count period (now x) ⌝ }
+    ensures { λ u. ⌜ Risen maxTiming (constraints period (pairs (now (words .entry)))) (now (x .entry)) (now (x .exit)) ⌝ }
+{
+    if k < count {
+        let p = delay_list::pair_at(words, k);
+        return relax(x, parents, p, period, k, last);
+    }
+    last
+}
+
+// One round in an order that is only a hint: a pair may be left out or come twice. The answer is that of `round`.
+fn in_order(
+    words: &[u32],
+    count: usize,
+    x: &mut [u32],
+    parents: &mut [u32; PARENTS],
+    period: u32,
+    order: &[usize],
+    down: bool,
+) -> usize
+    requires { ⌜ Raising (now words) count period (now x) × (count ≤ length (now order)) ⌝ }
+    ensures { λ u. ⌜ Risen maxTiming (constraints period (pairs (now (words .entry)))) (now (x .entry)) (now (x .exit)) ⌝ }
+{
+    let mut last = x.len();
+    let mut i = 0;
+    while i < count {
+        let at = delay_list::place(count, i, down);
+        last = relax_at(words, count, x, parents, period, order[at], last);
+        i += 1;
+    }
+    last
+}
+
+// One round in the order given, or in that of the list if it is too short. The answer is that of `round`.
+pub fn hinted(
+    words: &[u32],
+    count: usize,
+    x: &mut [u32],
+    parents: &mut [u32; PARENTS],
+    period: u32,
+    order: &[usize],
+    down: bool,
+) -> usize
+    requires { ⌜ Raising (now words) count period (now x) ⌝ }
+    ensures { λ u. ⌜ Risen maxTiming (constraints period (pairs (now (words .entry)))) (now (x .entry)) (now (x .exit)) ⌝ }
+{
+    if order.len() < count {
+        return round(words, count, x, parents, period, down);
+    }
+    in_order(words, count, x, parents, period, order, down)
+}

@@ -1,0 +1,56 @@
+-- `quick`: rounds in any order keep x under every schedule.
+use Prim.Native.Nat.{_-_}
+use mathlib.Core.Path.{sym, _∙_}
+use native.Mathlib.Omega.{arith}
+use Rattle.free_trials.proofs.TrialLaws.{Under, under-start, under-turn, under-raises, under-judges, under-told}
+use borrow.Author.Needs.{needs}
+use Rattle.free_trials.proofs.quick.Statement.{statement}
+use Rattle.free_trials.proofs.quick.Tie as tie
+
+abbrev Inv-loop : tie.InvT-loop
+Inv-loop words count x₀ order most period parents₀ done₀ x parents done = Under words period x
+
+abbrev μ-loop : tie.MeasureT-loop
+μ-loop words count x₀ order most period parents₀ done₀ x parents done = most - done
+
+loop-holds : tie.Need-loop-holds Inv-loop μ-loop
+loop-holds c = under-start (c .before .before .before .before .before .before .before .pre) (c .before .before .clear .ensures)
+
+hinted-requires : tie.Need-hinted-requires Inv-loop μ-loop
+hinted-requires c κs =
+    let l = c .before .before .before in
+    under-raises (l .before .before .before .before .before .before .before .before .pre) (l .loop .inv)
+
+judge-requires : tie.Need-judge-requires Inv-loop μ-loop
+judge-requires c κs =
+    let l = c .before .before .before .before .before .before .before .before in
+    under-judges (l .before .before .before .before .before .before .before .before .pre) (under-turn (l .loop .inv) (c .before .before .before .before .hinted .ensures))
+
+same-length : tie.Need-same-length Inv-loop μ-loop
+same-length c =
+    let l = c .before .before .before .before .before .before .before .before .before .before in
+    under-turn (l .loop .inv) (c .before .before .before .before .before .before .hinted .ensures) .size ∙ sym (l .before .before .before .before .before .before .before .before .pre .ready .timed)
+
+returns : tie.Need-returns Inv-loop μ-loop
+returns c =
+    let l = c .before .before .before .before .before .before .before .before .before .before in
+    record { tried = under-told (l .before .before .before .before .before .before .before .before .pre) (under-turn (l .loop .inv) (c .before .before .before .before .before .before .hinted .ensures)) (c .before .judge .ensures) }
+
+loop-less : tie.Need-loop-less Inv-loop μ-loop
+loop-less c = omega arith
+
+loop-again : tie.Need-loop-again Inv-loop μ-loop
+loop-again c = under-turn (c .before .before .before .before .before .before .before .before .before .before .loop .inv) (c .before .before .before .before .before .before .hinted .ensures)
+
+same-length-2 : tie.Need-same-length-2 Inv-loop μ-loop
+same-length-2 c = c .before .loop .inv .size ∙ sym (c .before .before .before .before .before .before .before .before .before .pre .ready .timed)
+
+returns-2 : tie.Need-returns-2 Inv-loop μ-loop
+returns-2 c = record { tried = λ h. absurd (omega (arith, c .before .before .before .before .before .before .before .before .before .pre .pos)) }
+
+pub quick-spec : {M : Type 1} → statement M
+quick-spec =
+    tie.close
+    (tie.spec
+    Inv-loop μ-loop (λ c κs. search needs) loop-holds hinted-requires judge-requires same-length returns (λ c. search needs)
+    loop-less loop-again same-length-2 returns-2)

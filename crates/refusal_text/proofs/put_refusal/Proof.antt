@@ -1,0 +1,18 @@
+use Rattle.text_pieces.proofs.PutLaws.{put-then}
+use Rattle.refusal_text.specs.PlainWords.{refusalLine}
+use borrow.Author.Needs.{needs}
+use Rattle.refusal_text.proofs.put_refusal.Statement.{statement}
+use Rattle.refusal_text.proofs.put_refusal.Tie as tie
+
+returns : tie.Need-returns
+unfolding refusalLine
+returns c = put-then (c .before .before .before .before .before .before .put-refused .ensures) (c .before .before .put-meaning .ensures)
+
+pub put-refusal-spec : {M : Type 1} → statement M
+put-refusal-spec =
+    tie.close
+    (tie.spec
+    (λ c κs. search needs)
+    (λ c κs. search needs)
+    (λ c. search needs)
+    returns)

@@ -1,0 +1,31 @@
+-- One answer for each row of words, and one for the others.
+use native.Mathlib.Omega.{arith}
+use Rattle.text_pieces.proofs.PutLaws.{put-as}
+use Rattle.refusal_text.specs.PlainWords.{wordsFor, troubles, trouble}
+use Rattle.refusal_text.proofs.WordLaws.{others-said}
+use borrow.Author.Needs.{needs}
+use Rattle.refusal_text.proofs.put_trouble.Statement.{statement}
+use Rattle.refusal_text.proofs.put_trouble.Tie as tie
+
+others : tie.Need-returns-7
+unfolding trouble
+others c =
+    let r = c .before .before .before .before .before .match .rest in
+    others-said troubles _ (c .before .before .before .before .before .before .before .args .fault)
+    (r .0 .0 .0 .0 .0 .1, (r .0 .0 .0 .0 .1, (r .0 .0 .0 .1, (r .0 .0 .1, (r .0 .1, (r .1, tt))))))
+    (c .before .before .put-bytes7 .ensures) (omega arith)
+
+pub put-trouble-spec : {M : Type 1} → statement M
+unfolding wordsFor trouble
+put-trouble-spec =
+    tie.close
+    (tie.spec
+    (λ c. search needs) (λ c κs. search needs) (λ c. search needs) (λ c κs. search needs) (λ c. search needs) (λ c κs. search needs) (λ c. search needs) (λ c κs. search needs)
+    (λ c. search needs) (λ c κs. search needs) (λ c. search needs) (λ c κs. search needs) (λ c. search needs) (λ c κs. search needs)
+    (λ c. search needs) (λ c. put-as trouble 80 (c .before .before .before .before .before .match .keys1) (c .before .before .put-bytes .ensures) (omega arith))
+    (λ c. search needs) (λ c. put-as trouble 80 (c .before .before .before .before .before .match .keys2) (c .before .before .put-bytes2 .ensures) (omega arith))
+    (λ c. search needs) (λ c. put-as trouble 80 (c .before .before .before .before .before .match .keys3) (c .before .before .put-bytes3 .ensures) (omega arith))
+    (λ c. search needs) (λ c. put-as trouble 80 (c .before .before .before .before .before .match .keys4) (c .before .before .put-bytes4 .ensures) (omega arith))
+    (λ c. search needs) (λ c. put-as trouble 80 (c .before .before .before .before .before .match .keys5) (c .before .before .put-bytes5 .ensures) (omega arith))
+    (λ c. search needs) (λ c. put-as trouble 80 (c .before .before .before .before .before .match .keys6) (c .before .before .put-bytes6 .ensures) (omega arith))
+    (λ c. search needs) others)

@@ -1,0 +1,51 @@
+-- What is printed for a refusal, and for a text that cannot be read: one line, which says in plain words what is wrong.
+use Prim.Native.Nat.{ℕ}
+use Prim.Native.String.{String}
+use mathlib.Core.Bool.{cond}
+use mathlib.Core.List.{List, [], _∷_, _++_}
+use lib.Dec.{eqb}
+use Rattle.text_pieces.specs.Pieces.{letters, named, refusedAt}
+
+abbrev pub colon : ℕ
+colon = 58
+
+-- the words for a number: those of the row with that number, or the others if there is none
+unfoldable pub wordsFor : List (ℕ × String) → String → ℕ → List ℕ
+wordsFor [] others number = letters others
+wordsFor ((k, words) ∷ rows) others number = cond (eqb number k) (letters words) (wordsFor rows others number)
+
+-- what a refusal means
+abbrev pub meanings : List (ℕ × String)
+meanings =
+    (11, " the count of words or numbers is wrong\n")
+    ∷ (12, " the count of registers or of pairs is out of range\n")
+    ∷ (13, " a word of the wrong kind: the list is damaged\n")
+    ∷ (14, " a register is not below the count of registers\n")
+    ∷ (15, " a delay is above 1000000 picoseconds\n")
+    ∷ (16, " a least delay is above its greatest\n")
+    ∷ (17, " the sum at the end is wrong: the list is damaged\n")
+    ∷ (3, " period, offset or timing out of range, or not one timing for each register\n")
+    ∷ []
+
+unfoldable pub meaning : ℕ → List ℕ
+meaning = wordsFor meanings " a buffer is too short\n"
+
+-- what is wrong with a text
+abbrev pub troubles : List (ℕ × String)
+troubles =
+    (1, " only digits, spaces and newlines may stand here\n")
+    ∷ (2, " a number is above 4294967295\n")
+    ∷ (3, " the first line holds one number, the count of registers\n")
+    ∷ (4, " a pair takes four numbers: launch capture least greatest\n")
+    ∷ (5, " too many numbers: a text has at most 8193, enough for 2048 pairs\n")
+    ∷ (6, " the text holds no number\n")
+    ∷ []
+
+unfoldable pub trouble : ℕ → List ℕ
+trouble = wordsFor troubles " the text is longer than 131072 bytes\n"
+
+unfoldable pub refusalLine : ℕ → ℕ → List ℕ
+refusalLine number place = refusedAt number place colon ++ meaning number
+
+unfoldable pub faultLine : ℕ → ℕ → List ℕ
+faultLine fault line = named (letters "line ") line colon ++ trouble fault

@@ -1,0 +1,95 @@
+// One line for a refusal, or for a text that cannot be read: what is wrong, in plain words.
+// The contracts cite `specs/PlainWords.antt`. With 20 digits for each number, no line has more than 133 bytes.
+ghost use Prim.Native.Nat.{_+_, _≤_};
+ghost use lib.ListN.{length};
+ghost use Rattle.text_pieces.specs.Pieces.{Put};
+ghost use Rattle.refusal_text.specs.PlainWords.{meaning, trouble, refusalLine, faultLine};
+use text_pieces::put_bytes;
+use text_pieces::put_named;
+use text_pieces::put_refused;
+
+fn put_meaning(text: &mut [u8], at: usize, number: u32) -> usize
+    requires { ⌜ at + 80 ≤ length (now text) ⌝ }
+    ensures { λ r. ⌜ Put 80 (meaning number) (now (text .entry)) at (now (text .exit)) r ⌝ }
+{
+    match number {
+        11 => put_bytes(text, at, b" the count of words or numbers is wrong\n"),
+        12 => put_bytes(
+            text,
+            at,
+            b" the count of registers or of pairs is out of range\n",
+        ),
+        13 => put_bytes(
+            text,
+            at,
+            b" a word of the wrong kind: the list is damaged\n",
+        ),
+        14 => put_bytes(
+            text,
+            at,
+            b" a register is not below the count of registers\n",
+        ),
+        15 => put_bytes(text, at, b" a delay is above 1000000 picoseconds\n"),
+        16 => put_bytes(text, at, b" a least delay is above its greatest\n"),
+        17 => put_bytes(
+            text,
+            at,
+            b" the sum at the end is wrong: the list is damaged\n",
+        ),
+        3 => put_bytes(
+            text,
+            at,
+            b" period, offset or timing out of range, or not one timing for each register\n",
+        ),
+        _ => put_bytes(text, at, b" a buffer is too short\n"),
+    }
+}
+
+fn put_trouble(text: &mut [u8], at: usize, fault: u32) -> usize
+    requires { ⌜ at + 80 ≤ length (now text) ⌝ }
+    ensures { λ r. ⌜ Put 80 (trouble fault) (now (text .entry)) at (now (text .exit)) r ⌝ }
+{
+    match fault {
+        1 => put_bytes(
+            text,
+            at,
+            b" only digits, spaces and newlines may stand here\n",
+        ),
+        2 => put_bytes(text, at, b" a number is above 4294967295\n"),
+        3 => put_bytes(
+            text,
+            at,
+            b" the first line holds one number, the count of registers\n",
+        ),
+        4 => put_bytes(
+            text,
+            at,
+            b" a pair takes four numbers: launch capture least greatest\n",
+        ),
+        5 => put_bytes(
+            text,
+            at,
+            b" too many numbers: a text has at most 8193, enough for 2048 pairs\n",
+        ),
+        6 => put_bytes(text, at, b" the text holds no number\n"),
+        _ => put_bytes(text, at, b" the text is longer than 131072 bytes\n"),
+    }
+}
+
+// The line of a refusal.
+pub fn put_refusal(text: &mut [u8], number: u32, place: usize) -> usize
+    requires { ⌜ 133 ≤ length (now text) ⌝ }
+    ensures { λ r. ⌜ Put 133 (refusalLine number place) (now (text .entry)) 0 (now (text .exit)) r ⌝ }
+{
+    let a = put_refused(text, number, place, b':');
+    put_meaning(text, a, number)
+}
+
+// The line for a text that cannot be read.
+pub fn put_fault(text: &mut [u8], fault: u32, line: usize) -> usize
+    requires { ⌜ 133 ≤ length (now text) ⌝ }
+    ensures { λ r. ⌜ Put 133 (faultLine fault line) (now (text .entry)) 0 (now (text .exit)) r ⌝ }
+{
+    let a = put_named(text, 0, b"line ", line as u64, b':');
+    put_trouble(text, a, fault)
+}

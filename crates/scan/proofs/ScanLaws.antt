@@ -1,0 +1,212 @@
+-- Reading a text byte by byte: the state and the places after each.
+use Prim.Native.Nat.{ℕ, zero, suc, _+_, _≤_, _<_}
+use mathlib.Core.Bool.{Bool, true, false, cond}
+use mathlib.Core.List.{List, [], _∷_, _++_, append-assoc, append-nil}
+use mathlib.Core.Path.{_≡_, refl, sym, _∙_}
+use native.Mathlib.Numerals.{add-one}
+use native.Mathlib.Omega.{arith}
+use lib.Dec.{ltb, eqb}
+use lib.ListN.{length, take, drop, getD, set, length-append}
+use lib.Seq.{take-suc, take-length}
+use borrow.Author.Tests.{ltb-true, ltb-false, lt-ltb, le-ltb, eq-eqb, ne-eqb, eqb-true, eqb-false}
+use Rattle.buffers.specs.Over.{over}
+use Rattle.buffers.proofs.FillLaws.{Filled, filled-none, filled-put, filled-size, set-put}
+use Rattle.scan.specs.declared.State.{State}
+use Rattle.scan.specs.declared.Scanned.{Scanned}
+use Rattle.scan.specs.declared.Scanned.the-variants.{Numbers, Faulty}
+use Rattle.scan.specs.Scan.{maxNumbers, textBytes, start, failed, numberEnded, lineFault, nextLine, lineEnded, step, someNumber, finished, kept, keptIn, after, ended, last, scannedNumbers, resultOf, scanned, storedOf, Counted, ScanAs, StateIn, ScannedTo}
+use Rattle.scan.proofs.StateLaws.{Moves, Fair, fair-in, step-moves, finish-moves}
+
+-- ---- runs of bytes strung together
+
+pub after-append : (s : State) (xs ys : List ℕ) → after s (xs ++ ys) ≡ after (after s xs) ys
+unfolding after
+after-append s [] ys = refl
+after-append s (x ∷ xs) ys = after-append (step s x) xs ys
+
+pub ended-append : (s : State) (xs ys : List ℕ) → ended s (xs ++ ys) ≡ ended s xs ++ ended (after s xs) ys
+unfolding after ended
+ended-append s [] ys = refl
+ended-append s (x ∷ xs) ys = rw (ended-append (step s x) xs ys, append-assoc)
+
+-- one byte more
+pub after-one : (s : State) (xs : List ℕ) (x : ℕ) → after s (xs ++ (x ∷ [])) ≡ step (after s xs) x
+unfolding after
+after-one s xs x = after-append s xs (x ∷ [])
+
+pub ended-one : (s : State) (xs : List ℕ) (x : ℕ) → ended s (xs ++ (x ∷ [])) ≡ ended s xs ++ kept (after s xs) (step (after s xs) x)
+unfolding ended
+ended-one s xs x = rw (ended-append s xs (x ∷ []), append-nil)
+
+-- ---- the number that ends on the way
+
+module _ {l : ℕ} {s t : State} (m : Moves l 1 s t) where
+  pub kept-size : t .count ≡ s .count + length (kept s t)
+  unfolding kept
+  kept-size = go (ltb (s .count) (t .count)) refl
+    where
+      go : (b : Bool) → ltb (s .count) (t .count) ≡ b → t .count ≡ s .count + length (cond b (s .value ∷ []) [])
+      go true e = omega (arith, ltb-true (s .count) (t .count) e, m .high)
+      go false e = omega (arith, ltb-false (s .count) (t .count) e, m .low)
+
+  pub kept-filled : {xs was now : List ℕ} → maxNumbers ≤ length was → s .count ≡ length xs → Filled xs was now → Filled (xs ++ kept s t) was (keptIn s t now)
+  unfolding kept keptIn
+  kept-filled {xs} {was} {now} room size f = go (ltb (s .count) (t .count)) refl
+    where
+      go : (b : Bool) → ltb (s .count) (t .count) ≡ b
+          → Filled (xs ++ cond b (s .value ∷ []) []) was (cond b (set now (s .count) (s .value)) now)
+      go true e =
+          let below : s .count < length was = omega (arith, ltb-true (s .count) (t .count) e, m .most) in
+          let below′ : s .count < length now = omega (arith, filled-size f) in
+          filled-put f (s .value ∷ []) (set now (s .count) (s .value)) size (omega arith) (set-put now (s .count) (s .value) below′)
+      go false e = rw append-nil f
+
+-- ---- the loop
+
+-- i bytes of bs were read, into places that held `was` and hold `now`
+pub record Scanning (lined : Bool) (bs was now : List ℕ) (s : State) (i : ℕ) : Type 0 where
+  pub bound : i ≤ length bs
+  pub state : s ≡ after (start lined) (take i bs)
+  pub line : s .line ≤ i + 1
+  pub fair : Fair s
+  pub size : s .count ≡ length (ended (start lined) (take i bs))
+  pub places : Filled (ended (start lined) (take i bs)) was now
+
+module _ {lined : Bool} {bs was : List ℕ} where
+  pub scanning-start : {s : State} → s ≡ start lined → Scanning lined bs was was s 0
+  unfolding after ended
+  scanning-start {s} e =
+      record {
+        bound = omega arith;
+        state = e;
+        line = rw e (omega arith);
+        fair = rw e (record { first = omega arith; most = omega arith });
+        size = rw e;
+        places = filled-none was;
+      }
+
+  module _ {now : List ℕ} {s : State} {i : ℕ} (w : Scanning lined bs was now s i) where
+    -- the state is one from which a byte of a text that is not too long can be read
+    pub scanning-in : length bs ≤ textBytes → StateIn s
+    scanning-in h = record { line = omega (arith, w .line, w .bound); first = w .fair .first; count = w .fair .most }
+
+    pub scanning-size : length now ≡ length was
+    scanning-size = filled-size (w .places)
+
+    pub scanning-turn : {t : State} {now′ : List ℕ} → maxNumbers ≤ length was → i < length bs
+        → t ≡ step s (getD bs i 0) → now′ ≡ keptIn s t now → Scanning lined bs was now′ t (i + 1)
+    scanning-turn {t} {now′} room b e e′ =
+        let byte : ℕ = getD bs i 0 in
+        let m : Moves 1 1 s t = rw e (step-moves s (w .fair) byte) in
+        let one : take (i + 1) bs ≡ take i bs ++ (byte ∷ []) = rw (add-one i, take-suc bs i 0 b) in
+        let there : ended (start lined) (take (i + 1) bs) ≡ ended (start lined) (take i bs) ++ kept s t = rw (one, ended-one (start lined) (take i bs) byte, ← w .state, e) in
+        record {
+          bound = omega arith;
+          state = rw (one, after-one (start lined) (take i bs) byte, ← w .state) e;
+          line = omega (arith, m .line, w .line);
+          fair = record { first = m .first; most = m .most };
+          size = rw (there, length-append) (omega (arith, kept-size m, w .size));
+          places = rw (there, e′) (kept-filled m room (w .size) (w .places));
+        }
+
+    pub scanning-end : length bs ≤ textBytes → length bs ≤ i → ScannedTo lined bs was now s
+    scanning-end h l =
+        let e : i ≡ length bs = omega (arith, w .bound) in
+        let all : take i bs ≡ bs = rw (e, take-length bs) in
+        record {
+          state = rw all at (w .state);
+          within = scanning-in h;
+          size = rw all at (w .size);
+          places = rw all at (w .places .is);
+        }
+
+-- ---- the whole text
+
+-- a text that ends well holds a number
+some-there : (s : State) → someNumber s .fault ≡ 0 → 0 < someNumber s .count
+unfolding someNumber
+some-there s = go (eqb (s .fault) 0) refl (eqb (s .count) 0) refl
+  where
+    go : (b : Bool) → eqb (s .fault) 0 ≡ b → (b′ : Bool) → eqb (s .count) 0 ≡ b′
+        → cond b (cond b′ (failed s 6) s) s .fault ≡ 0 → 0 < cond b (cond b′ (failed s 6) s) s .count
+    go true e true e′ h = absurd (omega arith)
+    go true e false e′ h = omega (arith, eqb-false (s .count) 0 e′)
+    go false e b′ e′ h = absurd (eqb-false (s .fault) 0 e h)
+
+-- and the end of its last line keeps it
+line-there : (s : State) → (s .fault ≡ 0 → 0 < s .count) → lineEnded s .fault ≡ 0 → 0 < lineEnded s .count
+unfolding lineEnded
+line-there s = go (eqb (s .fault) 0) refl (eqb (lineFault (s .lined) (s .first) (s .count)) 0)
+  where
+    go : (b : Bool) → eqb (s .fault) 0 ≡ b → (b′ : Bool) → (s .fault ≡ 0 → 0 < s .count)
+        → cond b (cond b′ (nextLine s) (failed s (lineFault (s .lined) (s .first) (s .count)))) s .fault ≡ 0
+        → 0 < cond b (cond b′ (nextLine s) (failed s (lineFault (s .lined) (s .first) (s .count)))) s .count
+    go true e true some h = some (eqb-true (s .fault) 0 e)
+    go true e false some h = some (eqb-true (s .fault) 0 e)
+    go false e b′ some h = some h
+
+finish-some-number : (s : State) → finished s .fault ≡ 0 → 0 < finished s .count
+unfolding finished
+finish-some-number s = go (eqb (s .fault) 0) refl
+  where
+    go : (b : Bool) → eqb (s .fault) 0 ≡ b → cond b (lineEnded (someNumber (numberEnded s))) s .fault ≡ 0 → 0 < cond b (lineEnded (someNumber (numberEnded s))) s .count
+    go true e h = line-there (someNumber (numberEnded s)) (some-there (numberEnded s)) h
+    go false e h = absurd (eqb-false (s .fault) 0 e h)
+
+module _ {lined : Bool} {bs was : List ℕ} where
+  pub scan-long : textBytes < length bs → ScanAs lined bs was was (Faulty 7 1)
+  unfolding scanned storedOf
+  scan-long h =
+      let long = lt-ltb textBytes (length bs) h in
+      record {
+        answer = rw long;
+        stored = rw long;
+        counted = λ count e. (let z : _≡_ {A = ℕ} 0 1 = cc in absurd (omega arith));
+      }
+
+  module _ {mid now : List ℕ} {s t : State} (h : length bs ≤ textBytes) (room : maxNumbers ≤ length was)
+      (w : ScannedTo lined bs was mid s) (e : t ≡ finished s) (e′ : now ≡ keptIn s t mid) where
+    short : ltb textBytes (length bs) ≡ false
+    short = le-ltb textBytes (length bs) h
+
+    moved : Moves 1 1 s t
+    moved = rw e (finish-moves s (fair-in (w .within)))
+
+    here : t ≡ last lined bs
+    here = rw (w .state) at e
+
+    all : scannedNumbers lined bs ≡ ended (start lined) bs ++ kept s t
+    all = rw (← here, ← w .state)
+
+    filled : Filled (ended (start lined) bs ++ kept s t) was now
+    filled =
+        let fits : length (ended (start lined) bs) ≤ length was = omega (arith, w .size, w .within .count) in
+        rw e′ (kept-filled moved {xs = ended (start lined) bs} {now = mid} room (w .size) (record { room = fits; is = w .places }))
+
+    size : t .count ≡ length (storedOf lined bs)
+    unfolding storedOf
+    size = rw (short, all, length-append) (omega (arith, kept-size moved, w .size))
+
+    stored : now ≡ over (storedOf lined bs) was
+    unfolding storedOf
+    stored = rw (short, all) (filled .is)
+
+    pub scan-faulty : (t .fault ≡ 0 → ⊥) → ScanAs lined bs was now (Faulty (t .fault) (t .line))
+    unfolding scanned
+    scan-faulty wrong =
+        record {
+          answer = rw (short, ← here, ne-eqb (t .fault) 0 wrong);
+          stored = stored;
+          counted = λ count told. (let z : _≡_ {A = ℕ} 0 1 = cc in absurd (omega arith));
+        }
+
+    pub scan-numbers : t .fault ≡ 0 → ScanAs lined bs was now (Numbers (t .count))
+    unfolding scanned
+    scan-numbers ok =
+        record {
+          answer = rw (short, ← here, eq-eqb (t .fault) 0 ok);
+          stored = stored;
+          counted =
+              λ count told. (let same : count ≡ t .count = cc in
+              rw same (record { size = size; some = rw e (finish-some-number s (rw e at ok)); most = moved .most }));
+        }

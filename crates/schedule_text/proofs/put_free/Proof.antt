@@ -1,0 +1,24 @@
+use native.Mathlib.Omega.{arith}
+use Rattle.text_pieces.proofs.PutLaws.{put-then, put-within}
+use Rattle.schedule_text.specs.JobText.{freeLine}
+use borrow.Author.Needs.{needs}
+use Rattle.schedule_text.proofs.put_free.Statement.{statement}
+use Rattle.schedule_text.proofs.put_free.Tie as tie
+
+returns : tie.Need-returns
+unfolding freeLine
+returns c =
+    let put = put-then (put-then (c .before .before .before .before .before .before .before .before .before .before .before .put-named .ensures) (c .before .before .before .before .before .before .put-named2 .ensures)) (c .before .before .put-timings .ensures) in
+    put-within put (omega (arith, put .most))
+
+pub put-free-spec : {M : Type 1} → statement M
+put-free-spec =
+    tie.close
+    (tie.spec
+    (λ c. search needs)
+    (λ c κs. search needs)
+    (λ c. search needs)
+    (λ c κs. search needs)
+    (λ c κs. search needs)
+    (λ c. search needs)
+    returns)

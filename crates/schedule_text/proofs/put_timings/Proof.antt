@@ -1,0 +1,28 @@
+-- Register after register.
+use Prim.Native.Nat.{_-_}
+use native.Mathlib.Omega.{arith}
+use Rattle.text_pieces.proofs.PutLaws.{Listing, listing-start, listing-room, listing-turn, listing-end, put-size}
+use Rattle.schedule_text.specs.JobText.{timingLine, timingLines}
+use borrow.Author.Needs.{needs}
+use Rattle.schedule_text.proofs.put_timings.Statement.{statement}
+use Rattle.schedule_text.proofs.put_timings.Tie as tie
+
+abbrev Inv-loop : tie.InvT-loop
+Inv-loop text₀ at timings n last₀ r₀ text last r = Listing 42 (timingLine timings) n text₀ at text last r
+
+abbrev μ-loop : tie.MeasureT-loop
+μ-loop text₀ at timings n last₀ r₀ text last r = n - r
+
+pub put-timings-spec : {M : Type 1} → statement M
+unfolding timingLines
+put-timings-spec =
+    tie.close
+    (tie.spec Inv-loop μ-loop (λ c. listing-start (omega arith))
+    (λ c. search needs)
+    (λ c. search needs)
+    (λ c κs. listing-room (c .before .before .before .loop .inv) (omega arith) (omega arith))
+    (λ c. search needs)
+    (λ c. search needs)
+    (λ c. listing-turn (c .before .before .before .before .before .before .loop .inv) (omega arith) (c .before .before .put-timing .ensures))
+    (λ c. put-size (c .before .loop .inv .put))
+    (λ c. listing-end (c .before .loop .inv) (omega arith)))

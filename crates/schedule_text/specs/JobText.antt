@@ -1,0 +1,51 @@
+-- What is printed for the free schedule of a list, and for a split at a period and an offset.
+use Prim.Native.Nat.{ℕ, _+_, _*_}
+use mathlib.Core.Bool.{cond}
+use mathlib.Core.List.{List, _++_}
+use lib.Dec.{eqb}
+use lib.ListN.{getD}
+use Rattle.timing.specs.Limits.{maxRegisters, maxScratch}
+use Rattle.buffers.specs.Run.{run}
+use Rattle.refusals.specs.Reply.{told}
+use Rattle.list_format.specs.Lists.{registers}
+use Rattle.free_schedule.specs.FreeCall.{freeing}
+use Rattle.split.specs.Splitting.{splitting}
+use Rattle.text_pieces.specs.Pieces.{letters, number, named, space, newline}
+use Rattle.refusal_text.specs.PlainWords.{refusalLine}
+use Rattle.list_bytes.specs.ListBytes.{listOf}
+
+-- a register and its timing
+abbrev pub timingLine : List ℕ → ℕ → List ℕ
+timingLine xs r = number r space ++ number (getD xs r 0) newline
+
+-- a line for each of n registers
+unfoldable pub timingLines : ℕ → List ℕ → List ℕ
+timingLines n xs = run (timingLine xs) n
+
+-- places enough for any of these texts: 20 digits for each number
+abbrev pub jobPlaces : ℕ
+jobPlaces = 42 * maxRegisters + 133
+
+-- ---- the free schedule
+
+unfoldable pub freeLine : ℕ → ℕ → List ℕ
+freeLine common free = named (letters "common ") common space ++ named (letters "free ") free newline
+
+-- the two periods, and a line for each register
+abbrev pub freeDone : ℕ → List ℕ → List ℕ → List ℕ
+freeDone n returned stored = freeLine (getD returned 0 0) (getD returned 1 0) ++ timingLines n stored
+
+-- the text for the bytes of a list
+abbrev pub freeText : List ℕ → List ℕ
+freeText bs = told refusalLine (freeDone (registers (listOf bs))) (freeing (listOf bs) maxRegisters)
+
+-- ---- a split
+
+-- 0 is returned where there is none; else a line for each register
+abbrev pub splitDone : ℕ → List ℕ → List ℕ → List ℕ
+splitDone n returned stored = cond (eqb (getD returned 0 0) 0) (letters "no split\n") (letters "split\n" ++ timingLines n stored)
+
+-- the text for the bytes of a list
+abbrev pub splitText : List ℕ → ℕ → ℕ → List ℕ
+splitText bs period offset =
+    told refusalLine (splitDone (registers (listOf bs))) (splitting (listOf bs) period offset maxRegisters maxScratch)

@@ -1,0 +1,120 @@
+// The text of a free schedule, and of a split at a period and an offset, for the bytes of a delay list.
+// The contracts cite `specs/JobText.antt`.
+ghost use Prim.Native.Nat.{_+_, _*_, _≤_};
+ghost use lib.ListN.{length};
+ghost use mathlib.Core.List.{_++_};
+ghost use Rattle.timing.specs.Limits.{maxRegisters, maxScratch};
+ghost use Rattle.text_pieces.specs.Pieces.{Put, letters, number, space, newline};
+ghost use Rattle.refusals.specs.Reply.{told};
+ghost use Rattle.list_format.specs.Lists.{registers};
+ghost use Rattle.refusal_text.specs.PlainWords.{refusalLine};
+ghost use Rattle.free_schedule.specs.FreeCall.{freeing};
+ghost use Rattle.split.specs.Splitting.{splitting};
+ghost use Rattle.schedule_text.specs.JobText.{timingLines, jobPlaces, freeLine, freeDone, freeText, splitDone, splitText};
+use free_schedule::FreeAnswer;
+use list_bytes::MAX_WORDS;
+use split::Splitting;
+use text_pieces::put_bytes;
+use text_pieces::put_named;
+use text_pieces::put_number;
+use timing::MAX_REGISTERS;
+use timing::MAX_SCRATCH;
+
+const REGISTER_PLACES: usize = MAX_REGISTERS as usize;
+
+// Places enough for any text.
+pub const TEXT_PLACES: usize = 42 * REGISTER_PLACES + 133;
+
+// A register and its timing.
+fn put_timing(text: &mut [u8], at: usize, r: usize, timing: u32) -> usize
+    requires { ⌜ at + 42 ≤ length (now text) ⌝ }
+    ensures { λ z. ⌜ Put 42 (number r space ++ number timing newline) (now (text .entry)) at (now (text .exit)) z ⌝ }
+{
+    let a = put_number(text, at, r as u64, b' ');
+    put_number(text, a, timing as u64, b'\n')
+}
+
+// A line for each of n registers.
+fn put_timings(text: &mut [u8], at: usize, timings: &[u32], n: usize) -> usize
+    requires { ⌜ (n ≤ length (now timings)) × (at + 42 * n ≤ length (now text)) ⌝ }
+    ensures { λ z. ⌜ Put (42 * n) (timingLines n (now (timings .entry))) (now (text .entry)) at (now (text .exit)) z ⌝ }
+{
+    let mut last = at;
+    let mut r = 0;
+    while r < n {
+        last = put_timing(text, last, r, timings[r]);
+        r += 1;
+    }
+    last
+}
+
+// The two periods, and a line for each of n registers.
+fn put_free(text: &mut [u8], common: u32, free: u32, timings: &[u32], n: usize) -> usize
+    requires { ⌜ (n ≤ length (now timings)) × (54 + 42 * n ≤ length (now text)) ⌝ }
+    ensures { λ z. ⌜ Put (54 + 42 * n) (freeLine common free ++ timingLines n (now (timings .entry))) (now (text .entry)) 0 (now (text .exit)) z ⌝ }
+{
+    let a = put_named(text, 0, b"common ", common as u64, b' ');
+    let b = put_named(text, a, b"free ", free as u64, b'\n');
+    put_timings(text, b, timings, n)
+}
+
+// The free schedule for a run of words.
+fn put_free_words(text: &mut [u8], words: &[u32]) -> usize
+    requires { ⌜ jobPlaces ≤ length (now text) ⌝ }
+    ensures { λ z. ⌜ Put jobPlaces (told refusalLine (freeDone (registers (now (words .entry)))) (freeing (now (words .entry)) maxRegisters)) (now (text .entry)) 0 (now (text .exit)) z ⌝ }
+{
+    let mut answer = [0u32; REGISTER_PLACES];
+    match free_schedule::free(words, &mut answer) {
+        FreeAnswer::Refused(number, place) => refusal_text::put_refusal(text, number, place),
+        FreeAnswer::Periods(common, free) => {
+            let n = words::head_registers(words[0]) as usize;
+            put_free(text, common, free, &answer, n)
+        }
+    }
+}
+
+// The free schedule of the list whose bytes are given, as text in the first places of `text`; later places keep their contents.
+// The count of its bytes is returned.
+pub fn free_text(bytes: &[u8], text: &mut [u8; TEXT_PLACES]) -> usize
+    ensures { λ z. ⌜ Put jobPlaces (freeText (now (bytes .entry))) (now (text .entry)) 0 (now (text .exit)) z ⌝ }
+{
+    let mut words = [0u32; MAX_WORDS];
+    let count = list_bytes::load(bytes, &mut words);
+    put_free_words(text, &words[..count])
+}
+
+// `split`, and a line for each of n registers.
+fn put_split(text: &mut [u8], timings: &[u32], n: usize) -> usize
+    requires { ⌜ (n ≤ length (now timings)) × (6 + 42 * n ≤ length (now text)) ⌝ }
+    ensures { λ z. ⌜ Put (6 + 42 * n) (letters "split\n" ++ timingLines n (now (timings .entry))) (now (text .entry)) 0 (now (text .exit)) z ⌝ }
+{
+    let at = put_bytes(text, 0, b"split\n");
+    put_timings(text, at, timings, n)
+}
+
+// The split for a run of words.
+fn put_split_words(text: &mut [u8], words: &[u32], period: u32, offset: u32) -> usize
+    requires { ⌜ jobPlaces ≤ length (now text) ⌝ }
+    ensures { λ z. ⌜ Put jobPlaces (told refusalLine (splitDone (registers (now (words .entry)))) (splitting (now (words .entry)) period offset maxRegisters maxScratch)) (now (text .entry)) 0 (now (text .exit)) z ⌝ }
+{
+    let mut answer = [0u32; REGISTER_PLACES];
+    let mut scratch = [0u32; MAX_SCRATCH];
+    match split::split(words, period, offset, &mut answer, &mut scratch) {
+        Splitting::Refused(number, place) => refusal_text::put_refusal(text, number, place),
+        Splitting::NoSplit => put_bytes(text, 0, b"no split\n"),
+        Splitting::Split => {
+            let n = words::head_registers(words[0]) as usize;
+            put_split(text, &answer, n)
+        }
+    }
+}
+
+// The first split at a period and an offset of the list whose bytes are given, as text in the first places of `text`; later places
+// keep their contents. The count of its bytes is returned.
+pub fn split_text(bytes: &[u8], period: u32, offset: u32, text: &mut [u8; TEXT_PLACES]) -> usize
+    ensures { λ z. ⌜ Put jobPlaces (splitText (now (bytes .entry)) period offset) (now (text .entry)) 0 (now (text .exit)) z ⌝ }
+{
+    let mut words = [0u32; MAX_WORDS];
+    let count = list_bytes::load(bytes, &mut words);
+    put_split_words(text, &words[..count], period, offset)
+}

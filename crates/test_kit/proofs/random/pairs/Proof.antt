@@ -1,0 +1,23 @@
+use native.Mathlib.Omega.{arith}
+use Prim.Native.Nat.{_≤_, _-_}
+use mathlib.Core.Path.{_≡_, _∙_}
+use lib.ListN.{length}
+use borrow.Author.Needs.{needs}
+use Rattle.test_kit.proofs.random.pairs.Statement.{statement}
+use Rattle.test_kit.proofs.random.pairs.Tie as tie
+
+abbrev Inv-loop : tie.InvT-loop
+Inv-loop seed last most m numbers₀ s₀ k₀ numbers s k = (k ≤ m) × (length numbers ≡ length numbers₀)
+
+abbrev μ-loop : tie.MeasureT-loop
+μ-loop seed last most m numbers₀ s₀ k₀ numbers s k = m - k
+
+loop-again : tie.Need-loop-again Inv-loop μ-loop
+loop-again c = (omega arith, c .before .before .pair .kept .1 .1 .1 .1 .0 ∙ c .before .before .before .before .before .loop .inv .1)
+
+pub pairs-spec : {M : Type 1} → statement M
+pairs-spec =
+    tie.close
+    (tie.spec
+    Inv-loop μ-loop (λ c. search needs) (λ c. search needs) (λ c κs. search needs) (λ c. search needs)
+    (λ c. search needs) loop-again (λ c. search needs) (λ c. search needs))

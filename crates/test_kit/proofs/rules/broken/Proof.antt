@@ -1,0 +1,18 @@
+use Prim.Native.Nat.{_≤_, _-_}
+use borrow.Author.Needs.{needs}
+use Rattle.test_kit.proofs.rules.broken.Statement.{statement}
+use Rattle.test_kit.proofs.rules.broken.Tie as tie
+
+abbrev Inv-loop : tie.InvT-loop
+Inv-loop numbers m period s k₀ k = k ≤ m
+
+abbrev μ-loop : tie.MeasureT-loop
+μ-loop numbers m period s k₀ k = m - k
+
+pub broken-spec : {M : Type 1} → statement M
+broken-spec =
+    tie.close
+    (tie.spec
+    Inv-loop μ-loop (λ c. search needs) (λ c κs. search needs) (λ c. search needs) (λ c. search needs)
+    (λ c κs. search needs) (λ c. search needs) (λ c. search needs) (λ c. search needs) (λ c. search needs)
+    (λ c. search needs) (λ c. search needs) (λ c. search needs) (λ c. search needs))

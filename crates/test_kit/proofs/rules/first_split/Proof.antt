@@ -1,0 +1,20 @@
+use Prim.Native.Nat.{_≤_, _-_}
+use mathlib.Core.Path.{_≡_, _∙_}
+use lib.ListN.{length}
+use borrow.Author.Needs.{needs}
+use Rattle.test_kit.proofs.rules.first_split.Statement.{statement}
+use Rattle.test_kit.proofs.rules.first_split.Tie as tie
+
+abbrev Inv-loop : tie.InvT-loop
+Inv-loop numbers n m period offset s₀ v₀ s v = (v ≤ 64) × (length s ≡ length s₀)
+
+abbrev μ-loop : tie.MeasureT-loop
+μ-loop numbers n m period offset s₀ v₀ s v = 64 - v
+
+pub first-split-spec : {M : Type 1} → statement M
+first-split-spec =
+    tie.close
+    (tie.spec
+    Inv-loop μ-loop (λ c. search needs) (λ c κs. search needs) (λ c κs. search needs) (λ c. search needs)
+    (λ c. search needs) (λ c. search needs) (λ c. search needs) (λ c. search needs) (λ c. search needs)
+    (λ c. search needs) (λ c. search needs))

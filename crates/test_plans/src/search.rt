@@ -1,0 +1,192 @@
+// Random small lists: no split with an offset up to ten, in halves, beats the plan, and each place of the buffers is right.
+use free_schedule::FreeAnswer;
+use planner::Planning;
+use test_kit::lists::list;
+use test_kit::places::DIRT;
+use test_kit::places::front;
+use test_kit::places::kept;
+use test_kit::places::same;
+use test_kit::places::zero;
+use test_kit::random;
+use test_kit::rules;
+use test_kit::show;
+use test_kit::tally::Tally;
+ghost use Prim.Native.Nat.{_≤_};
+
+// All delays counted in halves.
+fn doubled(numbers: &[u32], m: usize, halves: &mut [u32])
+    requires { ⌜ m ≤ 2048 ⌝ }
+{
+    let mut k = 0;
+    while k < m {
+        double(numbers, 4 * k, halves);
+        k += 1;
+    }
+}
+
+fn double(numbers: &[u32], at: usize, halves: &mut [u32])
+    requires { ⌜ at ≤ 8192 ⌝ }
+{
+    let least = rules::at(numbers, at + 2) % 1024;
+    let greatest = rules::at(numbers, at + 3) % 1024;
+    random::put(
+        halves,
+        at,
+        rules::at(numbers, at),
+        rules::at(numbers, at + 1),
+        2 * least,
+        2 * greatest,
+    );
+}
+
+// The least offset up to twenty halves for which some split works at a period, both in halves; twenty-one if none does.
+fn least_offset(halves: &[u32], n: usize, m: usize, period: u32, s: &mut [u32]) -> u32
+    requires { ⌜ m ≤ 2048 ⌝ }
+{
+    let mut offset: u32 = 0;
+    while offset <= 20 {
+        if rules::first_split(halves, n, m, period, offset, s) {
+            return offset;
+        }
+        offset += 1;
+    }
+    21
+}
+
+// Whether no split works at any period from 1 up to one less than this, in whole picoseconds.
+fn none_below(halves: &[u32], n: usize, m: usize, period: u32, s: &mut [u32]) -> bool
+    requires { ⌜ m ≤ 2048 ⌝ }
+{
+    let mut t: u32 = 1;
+    while t < period {
+        if least_offset(halves, n, m, 2 * (t % 1024), s) <= 20 {
+            return false;
+        }
+        t += 1;
+    }
+    true
+}
+
+// Whether no rival has a shorter period, nor at this one a smaller offset.
+fn unbeaten(numbers: &[u32], n: usize, m: usize, two: u32, offset: u32) -> bool
+    requires { ⌜ m ≤ 2048 ⌝ }
+{
+    let mut halves = [0u32; 24];
+    let mut s = [0u32; 6];
+    doubled(numbers, m, &mut halves);
+    if !none_below(&halves, n, m, two, &mut s) {
+        return false;
+    }
+    least_offset(&halves, n, m, 2 * (two % 1024), &mut s) == 2 * (offset % 1024)
+}
+
+// Whether the free timings are those of the free schedule, and the split's those of the first split.
+fn shown(
+    words: &[u32],
+    numbers: &[u32],
+    n: usize,
+    m: usize,
+    free: u32,
+    two: u32,
+    offset: u32,
+    answer: &[u32],
+) -> bool
+    requires { ⌜ m ≤ 2048 ⌝ }
+    requires { ⌜ n ≤ 512 ⌝ }
+{
+    let mut freely = [0u32; 6];
+    let mut s = [0u32; 6];
+    let FreeAnswer::Periods(_, period) = free_schedule::free(words, &mut freely) else {
+        return false;
+    };
+    if period != free {
+        return false;
+    }
+    if !same(answer, &freely, n) {
+        return false;
+    }
+    rules::first_split(numbers, n, m, two, offset, &mut s) && same(back(answer, n), &s, n)
+}
+
+// The places from `from` on, or all if there are fewer.
+fn back(s: &[u32], from: usize) -> &[u32] {
+    if from <= s.len() {
+        return &s[from..];
+    }
+    s
+}
+
+// 1 if the plan of a list is right, else 2.
+fn right(words: &[u32], numbers: &[u32], n: usize, m: usize) -> u32
+    requires { ⌜ m ≤ 2048 ⌝ }
+    requires { ⌜ n ≤ 512 ⌝ }
+{
+    let mut answer = [DIRT; 14];
+    let mut scratch = [DIRT; 64];
+    let Planning::Planned(_, free, two, offset) = planner::plan(words, &mut answer, &mut scratch)
+    else {
+        return 2;
+    };
+    if !unbeaten(numbers, n, m, two, offset) {
+        return 2;
+    }
+    if !shown(words, numbers, n, m, free, two, offset, &answer) {
+        return 2;
+    }
+    left(&answer, 2 * n, &scratch, 6 * n + 4 * m)
+}
+
+// 1 if the places behind are kept and the scratch is zero where it was used, else 2.
+fn left(answer: &[u32], used: usize, scratch: &[u32], cleared: usize) -> u32 {
+    if !kept(answer, used) {
+        return 2;
+    }
+    if !zero(scratch, cleared) {
+        return 2;
+    }
+    if kept(scratch, cleared) { 1 } else { 2 }
+}
+
+// The next seed, and how one list fared: 1 right, 2 wrong.
+pub struct Turn {
+    pub seed: u64,
+    pub fate: u32,
+}
+
+// A random list of up to six registers and six pairs with delays up to nine.
+fn one(seed: u64) -> Turn {
+    let mut numbers = [0u32; 24];
+    let mut words = [0u32; 20];
+    let last = random::up_to(seed, 5);
+    let m = random::up_to(random::next(seed), 6) as usize;
+    let next = random::pairs(seed, last, 9, m, &mut numbers);
+    let count = list(last + 1, front(&numbers, 4 * m), &mut words);
+    Turn {
+        seed: random::next(next),
+        fate: right(front(&words, count), &numbers, last as usize + 1, m),
+    }
+}
+
+fn many() -> Tally {
+    let mut tally = Tally {
+        zeros: 0,
+        ones: 0,
+        others: 0,
+    };
+    let mut seed: u64 = 11;
+    let mut i: u32 = 0;
+    while i < 1000 {
+        let t = one(seed);
+        tally = tally.with(t.fate);
+        seed = t.seed;
+        i += 1;
+    }
+    tally
+}
+
+pub fn lists() {
+    let t = many();
+    show::text(b"plans of random lists against all splits and offsets in halves: ");
+    show::count(t.ones, b" right, ");
+    show::count(t.others, b" wrong\n");
+}

@@ -1,0 +1,20 @@
+use Prim.Native.Nat.{_≤_, _-_}
+use mathlib.Core.Path.{_≡_, _∙_}
+use lib.ListN.{length}
+use native.Mathlib.Omega.{arith}
+use borrow.Author.Needs.{needs}
+use Rattle.test_schedules.proofs.large.pairs.Statement.{statement}
+use Rattle.test_schedules.proofs.large.pairs.Tie as tie
+
+abbrev Inv-loop : tie.InvT-loop
+Inv-loop m against least greatest numbers₀ k₀ numbers k = (k ≤ m) × (length numbers ≡ length numbers₀)
+
+abbrev μ-loop : tie.MeasureT-loop
+μ-loop m against least greatest numbers₀ k₀ numbers k = m - k
+
+pub pairs-spec : {M : Type 1} → statement M
+pairs-spec =
+    tie.close
+    (tie.spec
+    Inv-loop μ-loop (λ c. search needs) (λ c κs. search needs) (λ c. search needs) (λ c. search needs)
+    (λ c. search needs) (λ c. search needs) (λ c. search needs))

@@ -1,0 +1,89 @@
+// Worked examples.
+use checker::Checking;
+use checker::Rule;
+use free_schedule::FreeAnswer;
+use test_kit::lists::list;
+use test_kit::places::front;
+use test_kit::show;
+
+pub fn show_free(r: FreeAnswer) {
+    match r {
+        FreeAnswer::Refused(code, place) => show::refusal(code, place),
+        FreeAnswer::Periods(common, free) => {
+            show::text(b"common ");
+            show::count(common, b" free ");
+            show::number(free as u64);
+            show::text(b"\n");
+        }
+    }
+}
+
+fn show_check(r: Checking) {
+    match r {
+        Checking::Admissible => show::text(b"admissible\n"),
+        Checking::Refused(code, place) => show::refusal(code, place),
+        Checking::Broken(pair, rule) => show_broken(pair, rule),
+    }
+}
+
+fn show_broken(pair: usize, rule: Rule) {
+    show::text(b"pair ");
+    show::number(pair as u64);
+    match rule {
+        Rule::Setup => show::text(b" breaks setup\n"),
+        Rule::Hold => show::text(b" breaks hold\n"),
+    }
+}
+
+// The free schedule of a list, in five places that held 9.
+fn free(label: &[u8], n: u32, numbers: &[u32]) {
+    let mut words = [0u32; 32];
+    let mut answer = [9u32; 5];
+    let count = list(n, numbers, &mut words);
+    show::text(label);
+    show_free(free_schedule::free(front(&words, count), &mut answer));
+    show::numbers(&answer, 5);
+}
+
+// A schedule checked against a list.
+fn check(label: &[u8], n: u32, numbers: &[u32], period: u32, timings: &[u32]) {
+    let mut words = [0u32; 32];
+    let count = list(n, numbers, &mut words);
+    show::text(label);
+    show_check(checker::check(front(&words, count), period, timings));
+}
+
+pub fn free_schedules() {
+    free(b"P: ", 2, &[0u32, 1, 7, 10, 1, 0, 1, 3]);
+    free(b"0-1 3/10: ", 2, &[0u32, 1, 3, 10]);
+    free(b"0-1 0/10: ", 2, &[0u32, 1, 0, 10]);
+    free(b"0-1 10/10: ", 2, &[0u32, 1, 10, 10]);
+    free(
+        b"ring of three: ",
+        3,
+        &[0u32, 1, 9, 9, 1, 2, 9, 9, 2, 0, 3, 3],
+    );
+    free(b"0-0 0/5: ", 1, &[0u32, 0, 0, 5]);
+    free(b"0-1 twice: ", 2, &[0u32, 1, 7, 10, 0, 1, 2, 4]);
+}
+
+pub fn checks() {
+    let p = [0u32, 1, 7, 10, 1, 0, 1, 3];
+    check(b"P at 7, 0 3: ", 2, &p, 7, &[0u32, 3]);
+    check(b"P at 7, 0 4: ", 2, &p, 7, &[0u32, 4]);
+    check(b"P at 7, 0 2: ", 2, &p, 7, &[0u32, 2]);
+    check(b"P at 7, 0 5: ", 2, &p, 7, &[0u32, 5]);
+    check(b"P at 7, 3 10: ", 2, &p, 7, &[3u32, 10]);
+    check(b"0-1 7/10 at 9, 0 8: ", 2, &[0u32, 1, 7, 10], 9, &[0u32, 8]);
+    check(b"0-0 0/5 at 4, 0: ", 1, &[0u32, 0, 0, 5], 4, &[0u32]);
+}
+
+pub fn refusals() {
+    let p = [0u32, 1, 7, 10, 1, 0, 1, 3];
+    check(b"period 0: ", 2, &p, 0, &[0u32, 3]);
+    check(b"period 1000001: ", 2, &p, 1_000_001, &[0u32, 3]);
+    check(b"three timings: ", 2, &p, 7, &[0u32, 3, 0]);
+    check(b"timing 511000000: ", 2, &p, 7, &[511_000_000u32, 0]);
+    check(b"timing 511000001: ", 2, &p, 7, &[0u32, 511_000_001]);
+    free(b"six registers in five places: ", 6, &[0u32, 1, 7, 10]);
+}

@@ -1,0 +1,154 @@
+// Random small lists: the free schedule and the check of a schedule against the plain search.
+use crate::plain;
+use checker::Checking;
+use checker::Rule;
+use free_schedule::FreeAnswer;
+use test_kit::lists::list;
+use test_kit::places::front;
+use test_kit::random;
+use test_kit::rules;
+use test_kit::show;
+use test_kit::tally::Tally;
+ghost use Prim.Native.Nat.{_≤_};
+
+// The next seed, and how one list fared: 1 right, 2 wrong.
+pub struct Turn {
+    pub seed: u64,
+    pub fate: u32,
+}
+
+// Whether the search finds no schedule at a period.
+fn none(numbers: &[u32], n: usize, m: usize, period: u32) -> bool
+    requires { ⌜ m ≤ 2048 ⌝ }
+{
+    let mut s = [0u32; 3];
+    plain::searched(numbers, n, m, period, 10, &[0u32, 0, 0], &mut s) == 0
+}
+
+// Whether it finds none at any period from 1 up to one less.
+fn none_below(numbers: &[u32], n: usize, m: usize, period: u32) -> bool
+    requires { ⌜ m ≤ 2048 ⌝ }
+{
+    let mut t = 1;
+    while t < period {
+        if !none(numbers, n, m, t) {
+            return false;
+        }
+        t += 1;
+    }
+    true
+}
+
+// Whether the free period and schedule are what the search finds.
+fn free_right(numbers: &[u32], n: usize, m: usize, words: &[u32]) -> u32
+    requires { ⌜ m ≤ 2048 ⌝ }
+{
+    let mut answer = [9u32; 3];
+    let mut s = [0u32; 3];
+    let FreeAnswer::Periods(_, free) = free_schedule::free(words, &mut answer) else {
+        return 2;
+    };
+    if !none_below(numbers, n, m, free) {
+        return 2;
+    }
+    if rules::broken(numbers, m, free, &answer) < 2 * m {
+        return 2;
+    }
+    plain::searched(numbers, n, m, free, 10, &answer, &mut s)
+}
+
+// What a check says, as the plain search numbers it.
+fn checked(words: &[u32], m: usize, period: u32, s: &[u32]) -> usize
+    requires { ⌜ m ≤ 2048 ⌝ }
+{
+    match checker::check(words, period, s) {
+        Checking::Admissible => 2 * m,
+        Checking::Refused(_, _) => 1_000_000,
+        Checking::Broken(k, rule) => match rule {
+            Rule::Setup => 2 * (k % 4096),
+            Rule::Hold => 2 * (k % 4096) + 1,
+        },
+    }
+}
+
+// Whether the check says of each schedule what the plain rules say.
+fn check_right(numbers: &[u32], n: usize, m: usize, words: &[u32], s: &mut [u32]) -> u32
+    requires { ⌜ m ≤ 2048 ⌝ }
+{
+    let mut left: u32 = 1_000;
+    while left > 0 {
+        if checked(words, m, 3, front(s, n)) != rules::broken(numbers, m, 3, s) {
+            return 2;
+        }
+        if !rules::advance(s, n, 4) {
+            return 1;
+        }
+        left -= 1;
+    }
+    2
+}
+
+// A random list of up to three registers and four pairs with delays up to five: its free schedule or the check of it.
+fn one(seed: u64, checking: bool) -> Turn {
+    let mut numbers = [0u32; 16];
+    let mut words = [0u32; 16];
+    let last = random::up_to(seed, 2);
+    let m = random::up_to(random::next(seed), 4) as usize;
+    let next = random::pairs(seed, last, 5, m, &mut numbers);
+    let count = list(last + 1, front(&numbers, 4 * m), &mut words);
+    Turn {
+        seed: random::next(next),
+        fate: fate(
+            &numbers,
+            last as usize + 1,
+            m,
+            front(&words, count),
+            checking,
+        ),
+    }
+}
+
+fn fate(numbers: &[u32], n: usize, m: usize, words: &[u32], checking: bool) -> u32
+    requires { ⌜ m ≤ 2048 ⌝ }
+{
+    let mut s = [0u32; 3];
+    if checking {
+        return check_right(numbers, n, m, words, &mut s);
+    }
+    free_right(numbers, n, m, words)
+}
+
+fn lists(checking: bool) -> Tally {
+    let mut tally = Tally {
+        zeros: 0,
+        ones: 0,
+        others: 0,
+    };
+    let mut seed: u64 = 3;
+    let mut i: u32 = 0;
+    while i < 1000 {
+        let t = one(seed, checking);
+        tally = tally.with(t.fate);
+        seed = t.seed;
+        i += 1;
+    }
+    tally
+}
+
+fn tell(label: &[u8], t: Tally) {
+    show::text(label);
+    show::count(t.ones, b" right, ");
+    show::count(t.others, b" wrong, ");
+    show::count(t.zeros, b" without a schedule\n");
+}
+
+pub fn free_schedules() {
+    tell(
+        b"free schedules of random lists against a search: ",
+        lists(false),
+    );
+}
+
+pub fn checks() {
+    tell(b"checks of random lists against the rules: ", lists(true));
+}

@@ -1,0 +1,123 @@
+// Random small lists at every period and offset up to fifteen, against a plain search over all splits.
+use split::Splitting;
+use test_kit::lists::list;
+use test_kit::places::DIRT;
+use test_kit::places::front;
+use test_kit::places::kept;
+use test_kit::places::same;
+use test_kit::places::zero;
+use test_kit::random;
+use test_kit::rules;
+use test_kit::show;
+use test_kit::tally::Tally;
+ghost use Prim.Native.Nat.{_≤_};
+
+// Whether the answer is right: the split or the buffer as it was, and the scratch zero where it was used.
+fn right(
+    yes: bool,
+    r: Splitting,
+    s: &[u32],
+    n: usize,
+    end: usize,
+    answer: &[u32],
+    scratch: &[u32],
+) -> bool {
+    if !zero(scratch, end) {
+        return false;
+    }
+    if !kept(scratch, end) {
+        return false;
+    }
+    match r {
+        Splitting::Refused(_, _) => false,
+        Splitting::NoSplit => !yes && kept(answer, 0),
+        Splitting::Split => yes && same(answer, s, n) && kept(answer, n),
+    }
+}
+
+// One period and one offset.
+fn tried(words: &[u32], numbers: &[u32], n: usize, m: usize, period: u32, offset: u32) -> bool
+    requires { ⌜ m ≤ 2048 ⌝ }
+    requires { ⌜ n ≤ 512 ⌝ }
+{
+    let mut answer = [DIRT; 6];
+    let mut scratch = [DIRT; 50];
+    let mut s = [0u32; 4];
+    let yes = rules::first_split(numbers, n, m, period, offset, &mut s);
+    let r = split::split(words, period, offset, &mut answer, &mut scratch);
+    right(yes, r, &s, n, 6 * n + 4 * m, &answer, &scratch)
+}
+
+// Every offset at one period.
+fn offsets(words: &[u32], numbers: &[u32], n: usize, m: usize, period: u32) -> bool
+    requires { ⌜ m ≤ 2048 ⌝ }
+    requires { ⌜ n ≤ 512 ⌝ }
+{
+    let mut offset: u32 = 0;
+    while offset <= 15 {
+        if !tried(words, numbers, n, m, period, offset) {
+            return false;
+        }
+        offset += 1;
+    }
+    true
+}
+
+// Every period: 1 if all is right, else 2.
+fn periods(words: &[u32], numbers: &[u32], n: usize, m: usize) -> u32
+    requires { ⌜ m ≤ 2048 ⌝ }
+    requires { ⌜ n ≤ 512 ⌝ }
+{
+    let mut period: u32 = 1;
+    while period <= 15 {
+        if !offsets(words, numbers, n, m, period) {
+            return 2;
+        }
+        period += 1;
+    }
+    1
+}
+
+// The next seed, and how one list fared: 1 right, 2 wrong.
+pub struct Turn {
+    pub seed: u64,
+    pub fate: u32,
+}
+
+// A random list of up to four registers and five pairs with delays up to twelve.
+fn one(seed: u64) -> Turn {
+    let mut numbers = [0u32; 20];
+    let mut words = [0u32; 20];
+    let last = random::up_to(seed, 3);
+    let m = random::up_to(random::next(seed), 5) as usize;
+    let next = random::pairs(seed, last, 12, m, &mut numbers);
+    let count = list(last + 1, front(&numbers, 4 * m), &mut words);
+    Turn {
+        seed: random::next(next),
+        fate: periods(front(&words, count), &numbers, last as usize + 1, m),
+    }
+}
+
+fn many() -> Tally {
+    let mut tally = Tally {
+        zeros: 0,
+        ones: 0,
+        others: 0,
+    };
+    let mut seed: u64 = 5;
+    let mut i: u32 = 0;
+    while i < 500 {
+        let t = one(seed);
+        tally = tally.with(t.fate);
+        seed = t.seed;
+        i += 1;
+    }
+    tally
+}
+
+pub fn lists() {
+    let t = many();
+    show::text(b"random lists at 240 periods and offsets each, against all splits: ");
+    show::count(t.ones, b" right, ");
+    show::count(t.others, b" wrong\n");
+}

@@ -1,0 +1,10 @@
+use Rattle.text_pieces.proofs.PutLaws.{put-then}
+use borrow.Author.Needs.{needs}
+use Rattle.text_pieces.proofs.put_number.Statement.{statement}
+use Rattle.text_pieces.proofs.put_number.Tie as tie
+
+returns : tie.Need-returns
+returns c = put-then (c .before .before .before .before .before .before .put-decimal .ensures) (c .before .before .put-byte .ensures)
+
+pub put-number-spec : {M : Type 1} → statement M
+put-number-spec = tie.close (tie.spec (λ c κs. search needs) (λ c κs. search needs) (λ c. search needs) returns)
