@@ -23,11 +23,11 @@ use Rattle.refusals.proofs.ReplyLaws.{answered-refused, answered-done}
 use Rattle.refusals.specs.Reply.{numbers, refused, done, replyOf}
 use Rattle.refusals.specs.declared.Fault.{Fault}
 use Rattle.refusals.specs.declared.Fault.the-variants.{None, At}
-use Rattle.list_format.specs.Lists.{registers, pairCount, pairAt, pairs, listChecks, verdict, IsPair}
+use Rattle.list_format.specs.Lists.{registers, pairCount, pairAt, pairs, listChecks, verdict, IsPair, AcceptedList}
 use Rattle.list_format.specs.declared.Verdict.the-variants as Verdict
 use Rattle.list_format.specs.declared.Verdict.the-variants.{Accepted}
 use Rattle.list_format.proofs.ListLaws.{refused→fault, accepted→none, none→accepted, same, each-pair, pair-holds}
-use Rattle.checker.specs.Check.{setupAt, holdAt, metAt, firstBroken, brokenRule, found, someAbove, timingChecks, checkChecks, checking, ruleNumber, checkReply, CheckedAs, Ready}
+use Rattle.checker.specs.Check.{setupAt, holdAt, metAt, firstBroken, brokenRule, found, someAbove, timingChecks, checkChecks, checking, ruleNumber, checkReply, CheckedAs}
 use Rattle.checker.specs.declared.Rule.{Rule}
 use Rattle.checker.specs.declared.Rule.the-variants.{Setup, Hold}
 use Rattle.checker.specs.declared.Checking.{Checking}
@@ -115,14 +115,14 @@ module _ (ws : List ℕ) (t : ℕ) (s : List ℕ) where
 
 -- ---- the answer for an accepted list
 
-module _ (t : ℕ) {ws s : List ℕ} {count k : ℕ} (ready : Ready ws count s) (first : k ≡ firstBroken ws t s) where
+module _ (t : ℕ) (s : List ℕ) {ws : List ℕ} {n count k : ℕ} (list : AcceptedList ws n count) (first : k ≡ firstBroken ws t s) where
   pub found-broken : k < count → (rule : Rule) → ruleNumber rule ≡ brokenRule ws t s k → checkReply (Broken k rule) ≡ numbers (found ws t s)
   unfolding found checkReply
-  found-broken h rule e = rw (e, first, lt-ltb (firstBroken ws t s) (pairCount ws) (omega (arith, ready .counted)))
+  found-broken h rule e = rw (e, first, lt-ltb (firstBroken ws t s) (pairCount ws) (omega (arith, list .pairsAre)))
 
   pub found-none : count ≤ k → checkReply Admissible ≡ numbers (found ws t s)
   unfolding found checkReply
-  found-none h = rw (le-ltb (firstBroken ws t s) (pairCount ws) (omega (arith, ready .counted)))
+  found-none h = rw (le-ltb (firstBroken ws t s) (pairCount ws) (omega (arith, list .pairsAre)))
 
 -- ---- nothing is found exactly in the admissible schedules
 
@@ -174,18 +174,18 @@ module _ (ws : List ℕ) (t : ℕ) (s : List ℕ) where
     call-decides : firstFault (checkChecks ws t s) ≡ f
     call-decides =
         let a = accepted→none ws e in
-        pass-first (listChecks ws) (timingChecks (registers ws) t s) (a .none) ∙ rw (← a .registersAre) (sym call)
+        pass-first (listChecks ws) (timingChecks (registers ws) t s) (a .none) ∙ rw (← a .list .registersAre) (sym call)
 
     pub by-call : {number place : ℕ} → f ≡ At number place → CheckedAs ws t s (Refused number place)
     unfolding checking
     by-call h = refuses (call-decides ∙ h) (answered-refused (checkChecks ws t s) _ (call-decides ∙ h))
 
     module _ (h : f ≡ None) where
-      pub call-ready : Ready ws m s
+      pub call-ready : AcceptedList ws (length s) m
       call-ready =
           let c = passed (timingChecks n t s) (sym call ∙ h) in
           let a = accepted→none ws e in
-          record { accepted = none→accepted ws (a .none); counted = a .pairsAre; timed = same _ _ (c .1 .1 .0) ∙ a .registersAre }
+          record { accepted = a .list .accepted; registersAre = same _ _ (c .1 .1 .0) ∙ a .list .registersAre; pairsAre = a .list .pairsAre }
 
       pub by-pairs : {r : Checking} → checkReply r ≡ numbers (found ws t s) → CheckedAs ws t s r
       unfolding checking replyOf checkReply

@@ -86,9 +86,3 @@ pub record CheckedAs (ws : List ℕ) (t : ℕ) (s : List ℕ) (r : Checking) : T
   pub sound : r ≡ Admissible → admissible t (pairs ws) s ≡ true
   -- every admissible schedule passes, unless the call is refused
   pub complete : admissible t (pairs ws) s ≡ true → firstFault (checkChecks ws t s) ≡ None → r ≡ Admissible
-
--- an accepted list with its count of pairs, and a timing for each register
-pub record Ready (ws : List ℕ) (count : ℕ) (s : List ℕ) : Type 0 where
-  pub accepted : IsAccepted ws
-  pub counted : count ≡ pairCount ws
-  pub timed : length s ≡ registers ws

@@ -6,13 +6,12 @@ use native.Mathlib.Nat.{sub-zero}
 use native.Mathlib.Omega.{arith}
 use lib.ListN.{length}
 use Rattle.timing.specs.declared.Pair.{Pair}
-use Rattle.list_format.specs.Lists.{registers, pairCount, pairAt, pairsFrom, pairs, IsPair}
+use Rattle.list_format.specs.Lists.{registers, pairCount, pairAt, pairsFrom, pairs, IsPair, AcceptedList}
 use Rattle.list_format.proofs.ListLaws.{pairs-in-range}
 use Rattle.free_laws.specs.Free.{common}
 use Rattle.free_laws.proofs.FreeLaws.{common-pos}
 use Rattle.free_laws.specs.Constraint.{Bound}
 use Rattle.free_laws.proofs.Bound.{bound-max, bound-period, bound-schedule}
-use Rattle.checker.specs.Check.{Ready}
 use Rattle.free_rounds.proofs.RoundLaws.{rules-at}
 use Rattle.free_trials.specs.Trial.{Trial, Sought}
 use Rattle.free_climb.specs.declared.Ascent.the-variants.{Done, Undecided}
@@ -76,12 +75,12 @@ pub record Climbing (ws : List ℕ) (t : ℕ) (x : List ℕ) (next : ℕ) : Type
   pub sought : Sought ws t x next
 
 pub climbing-after : {ws : List ℕ} {count t next : ℕ} {x y : List ℕ} → Trial ws count t x → length y ≡ length x → Sought ws t y next → Climbing ws t y next
-climbing-after p e s = record { size = e ∙ p .ready .timed; pos = p .pos; bound = p .bound; sought = s }
+climbing-after p e s = record { size = e ∙ p .list .registersAre; pos = p .pos; bound = p .bound; sought = s }
 
-module _ {ws : List ℕ} {count : ℕ} {x₀ : List ℕ} (r : Ready ws count x₀) where
+module _ {ws : List ℕ} {n count : ℕ} (r : AcceptedList ws n count) where
   -- a trial of u, with other times
   pub trial-of : {u : ℕ} {x : List ℕ} → length x ≡ registers ws → 1 ≤ u → Bound (pairs ws) u → Trial ws count u x
-  trial-of e pos b = record { ready = record { accepted = r .accepted; counted = r .counted; timed = e }; pos = pos; bound = b }
+  trial-of e pos b = record { list = record { accepted = r .accepted; registersAre = e; pairsAre = r .pairsAre }; pos = pos; bound = b }
 
   module _ {t next : ℕ} {x : List ℕ} (c : Climbing ws t x next) where
     pub climbing-tries : t < next → Trial ws count next x

@@ -3,10 +3,10 @@
 // The contracts cite `specs/Climbed.antt` and the laws of `free_laws`.
 ghost use mathlib.Core.Path.{_≡_};
 ghost use Prim.Native.Nat.{_-_, _≤_, max};
-ghost use Rattle.list_format.specs.Lists.{pairCount, pairs, IsAccepted};
+ghost use lib.ListN.{length};
+ghost use Rattle.list_format.specs.Lists.{pairCount, pairs, IsAccepted, AcceptedList};
 ghost use Rattle.free_laws.specs.Free.{common as commonOf};
 ghost use Rattle.free_laws.specs.Constraint.{Bound};
-ghost use Rattle.checker.specs.Check.{Ready};
 ghost use Rattle.free_trials.specs.Trial.{Trial};
 ghost use Rattle.free_climb.specs.Climbed.{Alone, Climbed, Ascended};
 use timing::MAX_PAIRS;
@@ -119,7 +119,7 @@ fn ordered(words: &[u32], count: usize, x: &mut [u32], start: u32) -> u32
 
 // The free period; the free schedule fills x. A few rounds in the order of the list are enough for most lists.
 pub fn climb(words: &[u32], count: usize, x: &mut [u32]) -> u32
-    requires { ⌜ Ready (now words) count (now x) ⌝ }
+    requires { ⌜ AcceptedList (now words) (length (now x)) count ⌝ }
     ensures { λ r. ⌜ Climbed (now (words .entry)) (now (x .exit)) r ⌝ }
 {
     let none = [0usize; 1];

@@ -5,12 +5,12 @@ use mathlib.Core.Path.{_≡_, refl}
 use native.Mathlib.Omega.{arith}
 use Rattle.timing.specs.declared.Pair.{Pair}
 use Rattle.timing.specs.Limits.{maxRegisters}
-use Rattle.list_format.specs.Lists.{registers, PairIn, IsPair}
-use Rattle.list_format.proofs.ListLaws.{accepted-in}
+use Rattle.list_format.specs.Lists.{registers, PairIn, IsPair, AcceptedList}
+use Rattle.list_format.proofs.ListLaws.{few-registers, pair-in}
 use Rattle.free_laws.proofs.Cycle.{adds-none, adds-setup, adds-hold}
 use Rattle.free_rounds.proofs.RoundLaws.{rules-at}
 use Rattle.free_cycles.specs.declared.Trail.{Trail}
-use Rattle.free_cycles.specs.Tracing.{Walkable, Traced, Further}
+use Rattle.free_cycles.specs.Tracing.{Traced, Further}
 
 -- a walk of no steps
 pub trail-start : {ws : List ℕ} {n at : ℕ} {w : Trail} → at < registers ws
@@ -25,13 +25,13 @@ trail-start h (s, a, k, g, l, u) =
       adds = rw (a, s, g, l, u) adds-none;
     }
 
-module _ {ws : List ℕ} {count n : ℕ} {w : Trail} (r : Walkable ws count n) (s : Traced ws n w) (more : w .steps < n) where
+module _ {ws : List ℕ} {count n : ℕ} {w : Trail} (r : AcceptedList ws n count) (s : Traced ws n w) (more : w .steps < n) where
   -- a register has a place among the parents
   pub at-parent : w .at < maxRegisters
-  at-parent = omega (arith, accepted-in ws (r .accepted) .head .most, s .inside)
+  at-parent = omega (arith, few-registers ws r, s .inside, r .registersAre)
 
   pub at-pair : {k : ℕ} → k < count → PairIn ws k
-  at-pair h = record { accepted = r .accepted; below = omega (arith, r .counted) }
+  at-pair h = pair-in ws r h
 
   module _ {k : ℕ} {p : Pair} (is : IsPair ws k p) (h : k < count) where
     pub back-setup : p .capture ≡ w .at
@@ -41,10 +41,10 @@ module _ {ws : List ℕ} {count n : ℕ} {w : Trail} (r : Walkable ws count n) (
           start = refl;
           on = omega arith;
           walked = record {
-            inside = is .launch;
+            inside = is .values .launch;
             most = omega arith;
             setups = omega (arith, s .setups);
-            gain = omega (arith, s .gain, is .limit);
+            gain = omega (arith, s .gain, is .values .limit);
             allowance = omega (arith, s .allowance);
             adds = adds-setup (s .adds) p (rules-at is (at-pair h .below)) e;
           };
@@ -57,11 +57,11 @@ module _ {ws : List ℕ} {count n : ℕ} {w : Trail} (r : Walkable ws count n) (
           start = refl;
           on = omega arith;
           walked = record {
-            inside = is .capture;
+            inside = is .values .capture;
             most = omega arith;
             setups = omega (arith, s .setups);
             gain = s .gain;
-            allowance = omega (arith, s .allowance, is .order, is .limit);
+            allowance = omega (arith, s .allowance, is .values .order, is .values .limit);
             adds = adds-hold (s .adds) p (rules-at is (at-pair h .below)) e;
           };
         }

@@ -2,24 +2,18 @@
 use Prim.Native.Nat.{ℕ, _*_, _≤_, _<_}
 use mathlib.Core.List.{List}
 use mathlib.Core.Path.{_≡_}
-use Rattle.timing.specs.Limits.{maxRegisters, maxDelay}
+use Rattle.timing.specs.Limits.{maxRegisters, maxPeriod}
 use Rattle.list_format.specs.Lists.{registers, pairCount, pairs, IsAccepted}
 use Rattle.free_laws.specs.Constraint.{Adds}
 use Rattle.free_cycles.specs.declared.Trail.{Trail}
-
--- an accepted list with its count of pairs, and a limit to the steps of a walk
-pub record Walkable (ws : List ℕ) (count n : ℕ) : Type 0 where
-  pub accepted : IsAccepted ws
-  pub counted : count ≡ pairCount ws
-  pub few : n ≤ maxRegisters
 
 -- n steps at most, along rules of the list
 pub record Traced (ws : List ℕ) (n : ℕ) (w : Trail) : Type 0 where
   pub inside : w .at < registers ws
   pub most : w .steps ≤ n
   pub setups : w .setups ≤ w .steps
-  pub gain : w .gain ≤ maxDelay * w .setups
-  pub allowance : w .allowance ≤ maxDelay * w .steps
+  pub gain : w .gain ≤ maxPeriod * w .setups
+  pub allowance : w .allowance ≤ maxPeriod * w .steps
   pub adds : Adds (pairs ws) (w .start) (w .at) (w .gain) (w .allowance) (w .setups)
 
 -- one step further, or at the end of the steps

@@ -2,14 +2,14 @@
 // The contracts cite `specs/Tracing.antt` and the laws of `free_laws`.
 ghost use mathlib.Core.Path.{_≡_};
 ghost use Prim.Native.Nat.{ℕ, _+_, _*_, _≤_, _<_};
-ghost use Rattle.timing.specs.Limits.{maxDelay};
-ghost use Rattle.list_format.specs.Lists.{registers, pairs};
+ghost use Rattle.timing.specs.Limits.{maxPeriod};
+ghost use Rattle.list_format.specs.Lists.{registers, pairs, AcceptedList};
 ghost use Rattle.free_laws.specs.Constraint.{Bound};
-ghost use Rattle.free_cycles.specs.Tracing.{Walkable, Traced, Further};
+ghost use Rattle.free_cycles.specs.Tracing.{Traced, Further};
 use free_rounds::PARENTS;
 use timing::Pair;
 
-// A walk back along rules, from the register `start` to the register `at`: what the rules ask for, what they leave,
+// A trail back along rules, from the register `start` to the register `at`: what the rules ask for, what they leave,
 // and how many of them are setup.
 pub struct Trail {
     pub start: u32,
@@ -38,49 +38,37 @@ impl Trail {
 // One step back, along rule 2k, setup of pair k, or 2k + 1, its hold. What is no rule into the register where the walk
 // stands ends it.
 fn along(words: &[u32], count: usize, n: usize, rule: u32, w: Trail) -> Trail
-    requires { ⌜ Walkable (now words) count n ⌝ }
+    requires { ⌜ AcceptedList (now words) n count ⌝ }
     requires { ⌜ Traced (now words) n w ⌝ }
     requires { ⌜ w .steps < n ⌝ }
     ensures { λ r. ⌜ Further (now (words .entry)) n w r ⌝ }
 {
+    let mut next = w;
     let k = (rule / 2) as usize;
     if k < count {
         let p = delay_list::pair_at(words, k);
         if rule % 2 == 0 {
             if p.capture == w.at {
-                return Trail {
-                    start: w.start,
-                    at: p.launch,
-                    steps: w.steps + 1,
-                    gain: w.gain + p.greatest,
-                    allowance: w.allowance,
-                    setups: w.setups + 1,
-                };
+                next.at = p.launch;
+                next.steps = w.steps + 1;
+                next.gain = w.gain + p.greatest;
+                next.setups = w.setups + 1;
+                return next;
             }
         } else if p.launch == w.at {
-            return Trail {
-                start: w.start,
-                at: p.capture,
-                steps: w.steps + 1,
-                gain: w.gain,
-                allowance: w.allowance + p.least,
-                setups: w.setups,
-            };
+            next.at = p.capture;
+            next.steps = w.steps + 1;
+            next.allowance = w.allowance + p.least;
+            return next;
         }
     }
-    Trail {
-        start: w.start,
-        at: w.at,
-        steps: n,
-        gain: w.gain,
-        allowance: w.allowance,
-        setups: w.setups,
-    }
+    next.steps = n;
+    next
 }
 
 // One step back, along the rule that raised the register last.
 fn back(words: &[u32], count: usize, n: usize, parents: &[u32; PARENTS], w: Trail) -> Trail
-    requires { ⌜ Walkable (now words) count n ⌝ }
+    requires { ⌜ AcceptedList (now words) n count ⌝ }
     requires { ⌜ Traced (now words) n w ⌝ }
     requires { ⌜ w .steps < n ⌝ }
     ensures { λ r. ⌜ Further (now (words .entry)) n w r ⌝ }
@@ -91,7 +79,7 @@ fn back(words: &[u32], count: usize, n: usize, parents: &[u32; PARENTS], w: Trai
 
 // Where n steps back lead from a register.
 fn origin(words: &[u32], count: usize, n: usize, parents: &[u32; PARENTS], last: u32) -> u32
-    requires { ⌜ Walkable (now words) count n ⌝ }
+    requires { ⌜ AcceptedList (now words) n count ⌝ }
     requires { ⌜ last < registers (now words) ⌝ }
     ensures { λ r. ⌜ r < registers (now (words .entry)) ⌝ }
 {
@@ -104,7 +92,7 @@ fn origin(words: &[u32], count: usize, n: usize, parents: &[u32; PARENTS], last:
 
 // The least period for which a walk that came back to its start is no contradiction; 0 for any other walk.
 fn needed(w: Trail) -> u32
-    requires { ⌜ w .gain ≤ maxDelay * w .setups ⌝ }
+    requires { ⌜ w .gain ≤ maxPeriod * w .setups ⌝ }
     ensures { λ r. ⌜ ((u : ℕ) → (w .at ≡ w .start → w .gain ≤ w .allowance + w .setups * u) → r ≤ u) ⌝ }
 {
     if w.at == w.start {
@@ -117,8 +105,7 @@ fn needed(w: Trail) -> u32
 
 // The period that the cycle of parents through a register asks for; 0 if it is on none.
 fn around(words: &[u32], count: usize, n: usize, parents: &[u32; PARENTS], start: u32) -> u32
-    requires { ⌜ Walkable (now words) count n ⌝ }
-    requires { ⌜ 0 < n ⌝ }
+    requires { ⌜ AcceptedList (now words) n count ⌝ }
     requires { ⌜ start < registers (now words) ⌝ }
     ensures { λ r. ⌜ Bound (pairs (now (words .entry))) r ⌝ }
 {
@@ -131,8 +118,7 @@ fn around(words: &[u32], count: usize, n: usize, parents: &[u32; PARENTS], start
 
 // A period below which there is no schedule, shown by the cycle of parents behind a register; 0 if there is none.
 pub fn cycle(words: &[u32], count: usize, n: usize, parents: &[u32; PARENTS], last: u32) -> u32
-    requires { ⌜ Walkable (now words) count n ⌝ }
-    requires { ⌜ 0 < n ⌝ }
+    requires { ⌜ AcceptedList (now words) n count ⌝ }
     requires { ⌜ last < registers (now words) ⌝ }
     ensures { λ r. ⌜ Bound (pairs (now (words .entry))) r ⌝ }
 {

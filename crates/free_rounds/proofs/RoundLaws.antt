@@ -11,7 +11,7 @@ use Rattle.timing.specs.declared.Pair.{Pair}
 use Rattle.timing.specs.Rules.{time, Each, InRange}
 use Rattle.timing.specs.Limits.{maxTiming}
 use Rattle.list_format.specs.Lists.{pairCount, pairAt, pairs, PairIn, IsPair, placeOf}
-use Rattle.list_format.proofs.ListLaws.{accepted-in, each-pair, pair-holds, each-place}
+use Rattle.list_format.proofs.ListLaws.{few-registers, few-pairs, pair-in, each-pair, pair-holds, each-place}
 use Rattle.free_laws.proofs.ConstraintList as rule-list
 use Rattle.free_laws.specs.Constraint.{Constraint, Meets, setup, hold, constraints, Below}
 use Rattle.free_laws.specs.Raise.{Attained, Capped, raiseTo, relaxTo, Risen, RoundTo}
@@ -47,22 +47,21 @@ module _ {ws : List ℕ} {count t : ℕ} {x₀ : List ℕ} (r : Raising ws count
 
   module _ {k : ℕ} (h : k < count) where
     pub turn-pair : PairIn ws k
-    turn-pair = record { accepted = r .ready .accepted; below = omega (arith, r .ready .counted) }
+    turn-pair = pair-in ws (r .list) h
 
     module _ {x : List ℕ} (s : Risen maxTiming (constraints t (pairs ws)) x₀ x) {p : Pair} (is : IsPair ws k p) where
       inside : InRange (length x) p
-      inside = record { launch = omega (arith, is .launch, s .size, r .ready .timed); capture = omega (arith, is .capture, s .size, r .ready .timed) }
+      inside = record { launch = omega (arith, is .values .launch, s .size, r .list .registersAre); capture = omega (arith, is .values .capture, s .size, r .list .registersAre) }
 
       pub turn-ready : Relaxable x p t k
       turn-ready =
-          let l = accepted-in ws (r .ready .accepted) .head in
           record {
-            raisable = record { few = omega (arith, l .most, s .size, r .ready .timed); capped = s .capped };
+            raisable = record { few = omega (arith, few-registers ws (r .list), s .size); capped = s .capped };
             inside = inside;
-            order = is .order;
-            limit = is .limit;
+            order = is .values .order;
+            limit = omega (arith, is .values .limit);
             period = r .period;
-            place = omega (arith, l .few, turn-pair .below);
+            place = omega (arith, few-pairs ws (r .list), h);
           }
 
       turned : Relaxed maxTiming t p x (relaxTo maxTiming t p x)
@@ -84,7 +83,7 @@ risen-then a b = record { size = b .size ∙ a .size; capped = b .capped; low = 
 pub raising-kept : {ws : List ℕ} {count t : ℕ} {rs : List Constraint} {x y : List ℕ} → Raising ws count t x → Risen maxTiming rs x y → Raising ws count t y
 raising-kept r s =
     record {
-      ready = record { accepted = r .ready .accepted; counted = r .ready .counted; timed = s .size ∙ r .ready .timed };
+      list = record { accepted = r .list .accepted; registersAre = s .size ∙ r .list .registersAre; pairsAre = r .list .pairsAre };
       capped = s .capped;
       period = r .period;
     }
@@ -108,9 +107,9 @@ module _ {ws : List ℕ} {count t : ℕ} {x₀ : List ℕ} (r : Raising ws count
     part-turn {k} {p} h at l is e =
         let z : List ℕ = relaxTo maxTiming t p x in
         let o = turned r h (s .risen) is in
-        let pair : p ≡ pairAt ws (placeOf (pairCount ws) down i) = is .same ∙ ap (pairAt ws) (at ∙ ap (λ m. placeOf m down i) (r .ready .counted)) in
+        let pair : p ≡ pairAt ws (placeOf (pairCount ws) down i) = is .same ∙ ap (pairAt ws) (at ∙ ap (λ m. placeOf m down i) (r .list .pairsAre)) in
         rw e (record {
-          bound = omega (arith, r .ready .counted);
+          bound = omega (arith, r .list .pairsAre);
           risen = risen-turn r h (s .risen) is refl;
           up = λ j. le-trans (s .up j) (o .up j);
           attained = below-more (λ j. PairAttained t x₀ z (pairAt ws (placeOf (pairCount ws) down j))) i
@@ -126,7 +125,7 @@ module _ {ws : List ℕ} {count t : ℕ} {x₀ : List ℕ} (r : Raising ws count
             up = s .up;
             low = s .risen .low;
             attained = each-rule (Attained maxTiming x₀ x) t (λ p b. b) (pairs ws)
-                (each-pair ws (PairAttained t x₀ x) (each-place (λ k. PairAttained t x₀ x (pairAt ws k)) (pairCount ws) down (λ j l. s .attained j (omega (arith, r .ready .counted)))));
+                (each-pair ws (PairAttained t x₀ x) (each-place (λ k. PairAttained t x₀ x (pairAt ws k)) (pairCount ws) down (λ j l. s .attained j (omega (arith, r .list .pairsAre)))));
           };
           capped = s .risen .capped;
         }

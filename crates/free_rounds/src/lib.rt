@@ -3,7 +3,7 @@
 ghost use mathlib.Core.Path.{_≡_};
 ghost use Prim.Native.Nat.{_-_, _≤_, _<_, min};
 ghost use lib.ListN.{length};
-ghost use Rattle.timing.specs.Limits.{maxDelay, maxTiming};
+ghost use Rattle.timing.specs.Limits.{maxPeriod, maxTiming};
 ghost use Rattle.list_format.specs.Lists.{pairs};
 ghost use Rattle.free_laws.specs.Constraint.{constraints};
 ghost use Rattle.free_laws.specs.Raise.{raiseTo, relaxTo, Risen, RoundTo};
@@ -27,7 +27,7 @@ fn raise(
 ) -> usize
     requires { ⌜ Raisable (now x) ⌝ }
     requires { ⌜ r < length (now x) ⌝ }
-    requires { ⌜ allowance ≤ maxDelay ⌝ }
+    requires { ⌜ allowance ≤ maxPeriod ⌝ }
     ensures { λ u. ⌜ now (x .exit) ≡ raiseTo maxTiming r (v - allowance) (now (x .entry)) ⌝ }
 {
     if x[r] + allowance < v {

@@ -8,15 +8,14 @@ use lib.ListN.{length, take, drop}
 use lib.Seq.{length-take-le, take-at}
 use Rattle.refusals.specs.Reply.{refused, done, replyOf, bufferAfter}
 use Rattle.refusals.proofs.ReplyLaws.{one-fails, one-passes, first-refused, then-refused, then-done}
-use Rattle.list_format.specs.Lists.{registers, pairs, listChecks, verdict}
+use Rattle.list_format.specs.Lists.{registers, pairs, listChecks, verdict, AcceptedList}
 use Rattle.list_format.specs.declared.Verdict.the-variants as Verdict
 use Rattle.list_format.proofs.ListLaws.{refused→fault, accepted→none, none→accepted, pairs-in-range}
 use Rattle.free_laws.specs.Free.{common, freePeriod, freeSchedule}
 use Rattle.free_laws.specs.Unbeaten.{UnbeatenFree}
 use Rattle.free_laws.proofs.UnbeatenLaws.{free-unbeaten}
-use Rattle.checker.specs.Check.{Ready}
 use Rattle.free_climb.specs.Climbed.{Climbed}
-use Rattle.free_schedule.specs.FreeCall.{freeing, freeReply, FreeAs, Counted, Roomy, FreeIn}
+use Rattle.free_schedule.specs.FreeCall.{freeing, freeReply, FreeAs, Roomy, FreeIn}
 use Rattle.free_schedule.specs.declared.FreeAnswer.the-variants.{Periods, Refused}
 
 -- a place for each register: they are lent to the climb and come back filled
@@ -24,26 +23,26 @@ module _ {ws : List ℕ} {n count : ℕ} {was : List ℕ} (r : Roomy ws n count 
   pub lent-size : n ≡ length (take n was)
   lent-size = sym (length-take-le n was (r .room))
 
-  pub lent-ready : Ready ws count (take n was)
+  pub lent-ready : AcceptedList ws (length (take n was)) count
   lent-ready =
-      record { accepted = r .counted .accepted; counted = r .counted .pairsAre; timed = sym lent-size ∙ r .counted .registersAre }
+      record { accepted = r .list .accepted; registersAre = sym lent-size ∙ r .list .registersAre; pairsAre = r .list .pairsAre }
 
   unbeaten-here : UnbeatenFree (registers ws) (pairs ws) (freePeriod (registers ws) (pairs ws)) (freeSchedule (registers ws) (pairs ws))
-  unbeaten-here = free-unbeaten (registers ws) (pairs ws) (pairs-in-range ws (r .counted .accepted))
+  unbeaten-here = free-unbeaten (registers ws) (pairs ws) (pairs-in-range ws (r .list .accepted))
 
   -- what was lent comes back filled
   pub lent-back : {x : List ℕ} {t : ℕ} → Climbed ws x t → FreeIn ws was (x ++ drop n was) t
   lent-back c =
       record {
         period = c .period;
-        places = rw (c .schedule, unbeaten-here .size, r .counted .registersAre);
+        places = rw (c .schedule, unbeaten-here .size, r .list .registersAre);
       }
 
   done-is : freeing ws (length was) ≡ done (common (pairs ws) ∷ freePeriod (registers ws) (pairs ws) ∷ []) (freeSchedule (registers ws) (pairs ws))
   unfolding freeing
   done-is =
-      let room : registers ws ≤ length was = omega (arith, r .room, r .counted .registersAre) in
-      then-done (listChecks ws) _ _ (accepted→none ws (r .counted .accepted) .none) (one-passes 2 0 (le-ltb _ _ room))
+      let room : registers ws ≤ length was = omega (arith, r .room, r .list .registersAre) in
+      then-done (listChecks ws) _ _ (accepted→none ws (r .list .accepted) .none) (one-passes 2 0 (le-ltb _ _ room))
 
   -- the answer, with a place for each register
   pub settled : {common′ free : ℕ} {now : List ℕ} → common′ ≡ common (pairs ws) → FreeIn ws was now free → FreeAs ws was now (Periods common′ free)
@@ -75,13 +74,11 @@ module _ (ws was : List ℕ) where
   list-stops e = refuses (first-refused (listChecks ws) _ _ (refused→fault ws e))
 
   -- too few places
-  pub too-small : {n count : ℕ} → Counted ws n count → length was < n → FreeAs ws was was (Refused 2 0)
+  pub too-small : {n count : ℕ} → AcceptedList ws n count → length was < n → FreeAs ws was was (Refused 2 0)
   unfolding freeing
   too-small c h =
       let small : length was < registers ws = omega (arith, c .registersAre) in
       refuses (then-refused (listChecks ws) _ _ (accepted→none ws (c .accepted) .none) (one-fails (lt-ltb _ _ small)))
 
-pub list-counts : (ws : List ℕ) {n m : ℕ} → verdict ws ≡ Verdict.Accepted n m → Counted ws n m
-list-counts ws e =
-    let a = accepted→none ws e in
-    record { accepted = none→accepted ws (a .none); registersAre = a .registersAre; pairsAre = a .pairsAre }
+pub list-counts : (ws : List ℕ) {n m : ℕ} → verdict ws ≡ Verdict.Accepted n m → AcceptedList ws n m
+list-counts ws e = accepted→none ws e .list

@@ -7,7 +7,7 @@ use lib.ListN.{length, take}
 use Rattle.buffers.specs.Over.{over}
 use Rattle.refusals.specs.Checks.{Check}
 use Rattle.refusals.specs.Reply.{Reply, refusal, numbers, Outcome, done, replyOf, bufferAfter, answered}
-use Rattle.list_format.specs.Lists.{registers, pairCount, pairs, listChecks, IsAccepted}
+use Rattle.list_format.specs.Lists.{registers, pairCount, pairs, listChecks, IsAccepted, AcceptedList}
 use Rattle.free_laws.specs.Free.{common, freePeriod, freeSchedule}
 use Rattle.free_laws.specs.Unbeaten.{UnbeatenFree}
 use Rattle.free_schedule.specs.declared.FreeAnswer.{FreeAnswer}
@@ -35,15 +35,9 @@ pub record FreeAs (ws was now : List ℕ) (r : FreeAnswer) : Type 0 where
   -- no rival beats the free period returned and the schedule in the first n places
   pub unbeaten : (common free : ℕ) → r ≡ Periods common free → UnbeatenFree (registers ws) (pairs ws) free (take (registers ws) now)
 
--- an accepted list with its counts
-pub record Counted (ws : List ℕ) (n count : ℕ) : Type 0 where
-  pub accepted : IsAccepted ws
-  pub registersAre : n ≡ registers ws
-  pub pairsAre : count ≡ pairCount ws
-
--- and a buffer with a place for each register
+-- an accepted list with its counts, and a buffer with a place for each register
 pub record Roomy (ws : List ℕ) (n count : ℕ) (buffer : List ℕ) : Type 0 where
-  pub counted : Counted ws n count
+  pub list : AcceptedList ws n count
   pub room : n ≤ length buffer
 
 -- the free period, with the free schedule in the first places of the buffer

@@ -1,6 +1,7 @@
 // The common period, the free period and the free schedule of a delay list.
 // The contracts cite `specs/FreeCall.antt`, and the definitions of `free_laws`.
-ghost use Rattle.free_schedule.specs.FreeCall.{FreeAs, Counted, Roomy, FreeIn};
+ghost use Rattle.list_format.specs.Lists.{AcceptedList};
+ghost use Rattle.free_schedule.specs.FreeCall.{FreeAs, Roomy, FreeIn};
 use list_format::Verdict;
 
 // The common and the free period, or a refusal with its place.
@@ -19,7 +20,7 @@ pub fn fill(words: &[u32], n: usize, count: usize, answer: &mut [u32]) -> u32
 
 // The answer for an accepted list of n registers.
 fn settle(words: &[u32], n: usize, count: usize, answer: &mut [u32]) -> FreeAnswer
-    requires { ⌜ Counted (now words) n count ⌝ }
+    requires { ⌜ AcceptedList (now words) n count ⌝ }
     ensures { λ r. ⌜ FreeAs (now (words .entry)) (now (answer .entry)) (now (answer .exit)) r ⌝ }
 {
     if answer.len() < n {

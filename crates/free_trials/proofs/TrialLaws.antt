@@ -9,9 +9,9 @@ use native.Mathlib.Omega.{arith}
 use lib.ListN.{length, drop, replicate, length-replicate}
 use lib.Seq.{drop-length}
 use Rattle.timing.specs.Rules.{admissible, Each, InRange}
-use Rattle.timing.specs.Limits.{maxDelay, maxPeriod, maxTiming}
-use Rattle.list_format.specs.Lists.{registers, pairs, IsAccepted}
-use Rattle.list_format.proofs.ListLaws.{accepted-in, pairs-in-range, pairs-within}
+use Rattle.timing.specs.Limits.{maxPeriod, maxTiming}
+use Rattle.list_format.specs.Lists.{registers, pairs, IsAccepted, AcceptedList}
+use Rattle.list_format.proofs.ListLaws.{few-registers, pairs-in-range, pairs-within}
 use Rattle.buffers.specs.Over.{zeros}
 use Rattle.free_laws.specs.Constraint.{Meets, constraints, Below, Bound}
 use Rattle.free_laws.specs.Raise.{Capped, Risen, RoundTo}
@@ -22,9 +22,7 @@ use Rattle.free_laws.proofs.Least.{least-exists}
 use Rattle.free_laws.proofs.Rounds.{Rounds, rounds-start, rounds-turn, rounds-end}
 use Rattle.free_laws.proofs.FreeLaws.{least-capped, common-limit}
 use Rattle.free_laws.proofs.Bound.{bound-common, bound-next}
-use Rattle.checker.specs.Check.{Ready}
 use Rattle.free_rounds.specs.Raise.{Raising}
-use Rattle.free_cycles.specs.Tracing.{Walkable}
 use Rattle.free_trials.specs.Trial.{Trial, Judged, Tried}
 
 -- ---- registers at 0
@@ -56,27 +54,27 @@ trying-under s = record { size = s .rounds .size; capped = s .capped; low = s .r
 
 module _ {ws : List ℕ} {count t : ℕ} {x₀ : List ℕ} (p : Trial ws count t x₀) where
   inside : Each (InRange (registers ws)) (pairs ws)
-  inside = pairs-in-range ws (p .ready .accepted)
+  inside = pairs-in-range ws (p .list .accepted)
 
   pub trial-limit : t ≤ maxPeriod
-  trial-limit = bound-limit ws (p .ready .accepted) (p .bound)
+  trial-limit = bound-limit ws (p .list .accepted) (p .bound)
 
   -- ---- schedules raised from all zero
 
   pub under-start : {x : List ℕ} → x ≡ zeros (length x₀) → Under ws t x
   under-start e =
-      rw (e, p .ready .timed)
+      rw (e, p .list .registersAre)
       (record { size = length-replicate (registers ws) 0; capped = zeros-below (registers ws) (λ r. maxTiming); low = λ f m. zeros-below (registers ws) f })
 
   module _ {x : List ℕ} (u : Under ws t x) where
-    still-ready : Ready ws count x
-    still-ready = record { accepted = p .ready .accepted; counted = p .ready .counted; timed = u .size }
+    still-ready : AcceptedList ws (length x) count
+    still-ready = record { accepted = p .list .accepted; registersAre = u .size; pairsAre = p .list .pairsAre }
 
     pub under-raises : Raising ws count t x
-    under-raises = record { ready = still-ready; capped = u .capped; period = trial-limit }
+    under-raises = record { list = still-ready; capped = u .capped; period = trial-limit }
 
     pub under-judges : Trial ws count t x
-    under-judges = record { ready = still-ready; pos = p .pos; bound = p .bound }
+    under-judges = record { list = still-ready; pos = p .pos; bound = p .bound }
 
     -- told t or more: settled, or a longer period
     pub under-told : {r : ℕ} → Judged ws t x r → t ≤ r → Tried ws t x r
@@ -91,7 +89,7 @@ module _ {ws : List ℕ} {count t : ℕ} {x₀ : List ℕ} (p : Trial ws count t
 
   pub trying-start : {x : List ℕ} → x ≡ zeros (length x₀) → Trying ws t x 0
   trying-start e =
-      rw (e, p .ready .timed)
+      rw (e, p .list .registersAre)
       (record { rounds = rounds-start (registers ws) (constraints t (pairs ws)) (within (registers ws) t (pairs ws) inside) maxTiming; capped = zeros-below (registers ws) (λ r. maxTiming) })
 
   module _ {x : List ℕ} {k : ℕ} (s : Trying ws t x k) where
@@ -117,12 +115,7 @@ module _ {ws : List ℕ} {count t : ℕ} {x₀ : List ℕ} (p : Trial ws count t
               let n = registers ws in
               let w = within n t (pairs ws) inside in
               let l = least-exists rs n w g m in
-              let steps : Each (λ q. q .greatest ≤ t + maxDelay) (pairs ws) = each-map (λ q h. omega arith) (pairs ws) (pairs-within ws (p .ready .accepted)) in
-              let cap = least-capped n t (pairs ws) inside maxTiming maxDelay steps (omega (arith, accepted-in ws (p .ready .accepted) .head .most)) (l .1) in
+              let steps : Each (λ q. q .greatest ≤ t + maxPeriod) (pairs ws) = each-map (λ q h. omega arith) (pairs ws) (pairs-within ws (p .list .accepted)) in
+              let cap = least-capped n t (pairs ws) inside maxTiming maxPeriod steps (omega (arith, few-registers ws (p .list), p .list .registersAre)) (l .1) in
               let same = rounds-end n rs w (s .rounds) (omega (arith, s .rounds .size)) (l .0) cap (l .1) in
               false≢true (sym e ∙ ap (admissible t (pairs ws)) same ∙ meets→admissible t (pairs ws) (l .0) (l .1 .meets))
-
--- what a walk asks for
-pub trial-walks : {ws : List ℕ} {count t : ℕ} {x : List ℕ} → Trial ws count t x → Walkable ws count (length x)
-trial-walks {ws} p =
-    record { accepted = p .ready .accepted; counted = p .ready .counted; few = omega (arith, p .ready .timed, accepted-in ws (p .ready .accepted) .head .most) }

@@ -3,14 +3,14 @@ use Prim.Native.Nat.{ℕ, _≤_}
 use mathlib.Core.Bool.{true}
 use mathlib.Core.List.{List}
 use mathlib.Core.Path.{_≡_}
+use lib.ListN.{length}
 use Rattle.timing.specs.Rules.{admissible}
-use Rattle.list_format.specs.Lists.{registers, pairs}
+use Rattle.list_format.specs.Lists.{registers, pairs, AcceptedList}
 use Rattle.free_laws.specs.Constraint.{constraints, Least, Bound}
-use Rattle.checker.specs.Check.{Ready}
 
 -- an accepted list with places for a schedule, and no schedule at a period shorter than t
 pub record Trial (ws : List ℕ) (count t : ℕ) (x : List ℕ) : Type 0 where
-  pub ready : Ready ws count x
+  pub list : AcceptedList ws (length x) count
   pub pos : 1 ≤ t
   pub bound : Bound (pairs ws) t
 

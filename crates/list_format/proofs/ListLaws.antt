@@ -8,7 +8,7 @@ use lib.ListN.{length, take}
 use borrow.Author.Tests.{ltb-false, le-ltb, leb-false, lt-leb, eqb-true, eqb-false, eq-eqb, ne-eqb, not-false}
 use Rattle.timing.specs.declared.Pair.{Pair}
 use Rattle.timing.specs.Rules.{Each, InRange}
-use Rattle.timing.specs.Limits.{maxRegisters, maxPairs, maxDelay}
+use Rattle.timing.specs.Limits.{maxRegisters, maxPairs, maxDelay, maxPeriod}
 use Rattle.words.specs.Word.{kindOf, payloadOf, headSpare, pairSpare, checksum}
 use Rattle.refusals.specs.Checks.{Check, firstFault, eachCheck}
 use Rattle.refusals.specs.Reply.{numbers, Outcome, replyOf, answered}
@@ -16,7 +16,7 @@ use Rattle.refusals.specs.declared.Fault.{Fault}
 use Rattle.refusals.specs.declared.Fault.the-variants.{None, At}
 use Rattle.refusals.proofs.CheckLaws.{stop-first, pass-first, both-pass, pass-both, passed, passes, each-passes, all-pass}
 use Rattle.refusals.proofs.ReplyLaws.{numbers-none}
-use Rattle.list_format.specs.Lists.{word, registers, pairCount, pairPlace, pairAt, pairsFrom, pairs, placeOf, differ, headChecks, kindChecks, valueChecks, pairChecks, endChecks, bodyChecks, listChecks, judged, verdict, ValuesIn, IsAccepted, PairIn, IsPair}
+use Rattle.list_format.specs.Lists.{word, registers, pairCount, pairPlace, pairAt, pairsFrom, pairs, placeOf, differ, headChecks, kindChecks, valueChecks, pairChecks, endChecks, bodyChecks, listChecks, judged, verdict, ValuesIn, IsAccepted, AcceptedList, PairIn, IsPair}
 use Rattle.list_format.specs.declared.Verdict.{Verdict}
 use Rattle.list_format.specs.declared.Verdict.the-variants.{Accepted, Refused}
 
@@ -56,12 +56,11 @@ module _ (ws : List ℕ) where
   -- an accepted list passes every check, and its counts are those of its head
   pub record AcceptedAs (n m : ℕ) : Type 0 where
     pub none : firstFault (listChecks ws) ≡ None
-    pub registersAre : n ≡ registers ws
-    pub pairsAre : m ≡ pairCount ws
+    pub list : AcceptedList ws n m
 
   judged-accepted : (f : Fault) {n m : ℕ} → firstFault (listChecks ws) ≡ f → judged ws f ≡ Accepted n m → AcceptedAs n m
   unfolding judged
-  judged-accepted None e a = record { none = e; registersAre = cc; pairsAre = cc }
+  judged-accepted None e a = record { none = e; list = record { accepted = none→accepted e; registersAre = cc; pairsAre = cc } }
   judged-accepted (At number place) e a =
       let z : _≡_ {A = ℕ} 0 1 = cc in
       absurd (omega arith)
@@ -217,8 +216,7 @@ module _ (ws : List ℕ) where
 
   pub is-pair : (k : ℕ) → PairIn ws k → IsPair ws k (pairAt ws k)
   is-pair k p =
-      let v = accepted-in (p .accepted) .values k (p .below) in
-      record { same = refl; launch = v .launch; capture = v .capture; order = v .order; limit = v .limit }
+      record { same = refl; values = accepted-in (p .accepted) .values k (p .below) }
 
   -- a property of each pair of the list
   each-from : (P : Pair → Type 0) (k left : ℕ) → ((i : ℕ) → i < k + left → P (pairAt ws i)) → Each P (pairsFrom ws k left)
@@ -251,8 +249,23 @@ module _ (ws : List ℕ) where
       let v = accepted-in a .values k h in
       record { launch = v .launch; capture = v .capture })
 
-  pub pairs-within : IsAccepted ws → Each (λ p. p .greatest ≤ maxDelay) (pairs ws)
-  pairs-within a = each-pair (λ p. p .greatest ≤ maxDelay) (λ k h. accepted-in a .values k h .limit)
+  -- no pair asks for more than the longest period
+  pub pairs-within : IsAccepted ws → Each (λ p. p .greatest ≤ maxPeriod) (pairs ws)
+  pairs-within a = each-pair (λ p. p .greatest ≤ maxPeriod) (λ k h. omega (arith, accepted-in a .values k h .limit))
+
+  -- an accepted list has at least one register, and no more registers and pairs than the limits
+  module _ {n m : ℕ} (l : AcceptedList ws n m) where
+    pub some-registers : 0 < n
+    some-registers = omega (arith, accepted-in (l .accepted) .head .some, l .registersAre)
+
+    pub few-registers : n ≤ maxRegisters
+    few-registers = omega (arith, accepted-in (l .accepted) .head .most, l .registersAre)
+
+    pub few-pairs : m ≤ maxPairs
+    few-pairs = omega (arith, accepted-in (l .accepted) .head .few, l .pairsAre)
+
+    pub pair-in : {k : ℕ} → k < m → PairIn ws k
+    pair-in h = record { accepted = l .accepted; below = omega (arith, l .pairsAre) }
 
 -- ---- walks up and down the list
 

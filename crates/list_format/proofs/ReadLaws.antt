@@ -43,7 +43,7 @@ module _ (ws was : List ℕ) where
     unfolding reading
     read-short h =
         let a = accepted→none ws v in
-        let short : length was < 4 * pairCount ws = omega (arith, a .pairsAre) in
+        let short : length was < 4 * pairCount ws = omega (arith, a .list .pairsAre) in
         not-read (then-refused (listChecks ws) _ _ (a .none) (one-fails (lt-ltb _ _ short)))
 
     -- the numbers are stored
@@ -51,14 +51,14 @@ module _ (ws was : List ℕ) where
     unfolding reading
     done-is h =
         let a = accepted→none ws v in
-        let room : 4 * pairCount ws ≤ length was = omega (arith, a .pairsAre) in
+        let room : 4 * pairCount ws ≤ length was = omega (arith, a .list .pairsAre) in
         then-done (listChecks ws) _ _ (a .none) (one-passes 2 0 (le-ltb _ _ room))
 
     pub read-done : (now : List ℕ) → 4 * m ≤ length was → now ≡ over (numbersOf ws) was → ReadAs ws was now (Read n m)
     unfolding replyOf bufferAfter readReply
     read-done now h s =
         let a = accepted→none ws v in
-        record { reply = rw (done-is h, a .registersAre, a .pairsAre); stored = rw (done-is h) s; back = again }
+        record { reply = rw (done-is h, a .list .registersAre, a .list .pairsAre); stored = rw (done-is h) s; back = again }
       where
         again : (k l : ℕ) → Read n m ≡ Read k l → (room : ℕ) → length ws ≤ room → writing k (take (4 * l) now) room ≡ done (length ws ∷ []) ws
         again k l e room r =

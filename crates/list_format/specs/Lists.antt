@@ -132,6 +132,12 @@ pub record ValuesIn (n : ℕ) (p : Pair) : Type 0 where
 abbrev pub IsAccepted : List ℕ → Type 0
 IsAccepted ws = verdict ws ≡ Accepted (registers ws) (pairCount ws)
 
+-- an accepted list with its counts: n registers and m pairs
+pub record AcceptedList (ws : List ℕ) (n m : ℕ) : Type 0 where
+  pub accepted : IsAccepted ws
+  pub registersAre : n ≡ registers ws
+  pub pairsAre : m ≡ pairCount ws
+
 -- the list is accepted, and pair k is one of its pairs
 pub record PairIn (ws : List ℕ) (k : ℕ) : Type 0 where
   pub accepted : IsAccepted ws
@@ -140,7 +146,4 @@ pub record PairIn (ws : List ℕ) (k : ℕ) : Type 0 where
 -- p is pair k of an accepted list, with what is known of its numbers
 pub record IsPair (ws : List ℕ) (k : ℕ) (p : Pair) : Type 0 where
   pub same : p ≡ pairAt ws k
-  pub launch : p .launch < registers ws
-  pub capture : p .capture < registers ws
-  pub order : p .least ≤ p .greatest
-  pub limit : p .greatest ≤ maxDelay
+  pub values : ValuesIn (registers ws) p

@@ -15,10 +15,10 @@ use Rattle.refusals.specs.declared.Fault.{Fault}
 use Rattle.refusals.specs.declared.Fault.the-variants.{None, At}
 use Rattle.refusals.proofs.CheckLaws.{pass-both, passed}
 use Rattle.refusals.proofs.ReplyLaws.{answered-done, first-refused, then-refused}
-use Rattle.list_format.specs.Lists.{registers, pairCount, pairs, listChecks, verdict}
+use Rattle.list_format.specs.Lists.{registers, pairCount, pairs, listChecks, verdict, AcceptedList}
 use Rattle.list_format.specs.declared.Verdict.the-variants.{Accepted}
 use Rattle.list_format.specs.declared.Verdict.the-variants.{Refused as ListRefused}
-use Rattle.list_format.proofs.ListLaws.{refused→fault, accepted→none, none→accepted, pairs-in-range}
+use Rattle.list_format.proofs.ListLaws.{refused→fault, accepted→none, pairs-in-range}
 use Rattle.free_laws.specs.Free.{common, freePeriod, freeSchedule}
 use Rattle.free_laws.proofs.FreeLaws.{period-pos}
 use Rattle.free_laws.specs.Constraint.{Bound}
@@ -30,10 +30,9 @@ use Rattle.plan_laws.specs.Unbeaten.{Unbeaten}
 use Rattle.plan_laws.specs.Reach.{lateAbove}
 use Rattle.plan_laws.proofs.TwoLaws.{two-common}
 use Rattle.plan_laws.proofs.UnbeatenLaws.{plan-unbeaten}
-use Rattle.checker.specs.Check.{Ready}
 use Rattle.reach.specs.Settling.{Reached}
 use Rattle.planner.specs.declared.Planning.the-variants.{Planned, Refused}
-use Rattle.planner.specs.PlanCall.{planCallChecks, planChecks, planning, planReply, PlanAs, Allowed, TwoIn}
+use Rattle.planner.specs.PlanCall.{planCallChecks, planChecks, planning, planReply, PlanAs, PlanAllowed, TwoIn}
 
 -- ---- a refusal changes nothing
 
@@ -58,13 +57,13 @@ module _ (ws answer scratch : List ℕ) where
     fault-is : f ≡ firstFault (planCallChecks (registers ws) (pairCount ws) (length answer) (length scratch))
     fault-is =
         let a = accepted→none ws v in
-        rw (a .registersAre, a .pairsAre) at e
+        rw (a .list .registersAre, a .list .pairsAre) at e
 
     pub call-refused : {number place : ℕ} → f ≡ At number place → PlanAs ws answer answer scratch scratch (Refused number place)
     unfolding planning
     call-refused g = kept (then-refused (listChecks ws) _ _ (accepted→none ws v .none) (sym fault-is ∙ g))
 
-    pub call-allowed : f ≡ None → Allowed ws n m (length answer) (length scratch)
+    pub call-allowed : f ≡ None → PlanAllowed ws n m (length answer) (length scratch)
     call-allowed g =
         let a = accepted→none ws v in
         let call = planCallChecks (registers ws) (pairCount ws) (length answer) (length scratch) in
@@ -73,11 +72,9 @@ module _ (ws answer scratch : List ℕ) where
         let k : scratchPlaces (registers ws) (pairCount ws) ≤ length scratch = ltb-false _ _ (p .1 .0) in
         record {
           none = pass-both (listChecks ws) call (a .none) (sym fault-is ∙ g);
-          accepted = none→accepted ws (a .none);
-          registersAre = a .registersAre;
-          pairsAre = a .pairsAre;
-          answers = omega (arith, a .registersAre);
-          scratches = omega (arith, a .registersAre, a .pairsAre);
+          list = a .list;
+          answers = omega (arith, a .list .registersAre);
+          scratches = omega (arith, a .list .registersAre, a .list .pairsAre);
         }
 
 -- ---- the common period less the two-timing one
@@ -92,36 +89,36 @@ module _ (ws : List ℕ) {top two : ℕ} (e : top ≡ common (pairs ws)) (p : tw
 
 -- ---- an allowed call
 
-pub allowed-kept : {ws : List ℕ} {n m room room′ spare : ℕ} → Allowed ws n m room spare → room′ ≡ room → Allowed ws n m room′ spare
+pub allowed-kept : {ws : List ℕ} {n m room room′ spare : ℕ} → PlanAllowed ws n m room spare → room′ ≡ room → PlanAllowed ws n m room′ spare
 allowed-kept a e = rw e a
 
-module _ {ws : List ℕ} {n m room spare : ℕ} (a : Allowed ws n m room spare) where
+module _ {ws : List ℕ} {n m room spare : ℕ} (a : PlanAllowed ws n m room spare) where
   -- the first n places of the scratch, lent
   module _ (scratch : List ℕ) (e : length scratch ≡ spare) where
     pub lent-size : length (take n scratch) ≡ n
     lent-size = length-take-le n scratch (omega (arith, a .scratches))
 
-    pub lent-ready : Ready ws m (take n scratch)
-    lent-ready = record { accepted = a .accepted; counted = a .pairsAre; timed = lent-size ∙ a .registersAre }
+    pub lent-ready : AcceptedList ws (length (take n scratch)) m
+    lent-ready = record { accepted = a .list .accepted; registersAre = lent-size ∙ a .list .registersAre; pairsAre = a .list .pairsAre }
 
   -- ---- the two-timing period
 
   -- the free period bounds it
   module _ {free : ℕ} (e : free ≡ freePeriod (registers ws) (pairs ws)) where
     pub free-pos : 1 ≤ free
-    free-pos = omega (arith, e, period-pos (registers ws) (pairs ws) (pairs-in-range ws (a .accepted)))
+    free-pos = omega (arith, e, period-pos (registers ws) (pairs ws) (pairs-in-range ws (a .list .accepted)))
 
     pub free-bound : Bound (pairs ws) (free - 1 + 1)
     free-bound =
         let same : free - 1 + 1 ≡ freePeriod (registers ws) (pairs ws) = omega (arith, e, free-pos) in
-        rw same (bound-free (registers ws) (pairs ws) (pairs-in-range ws (a .accepted)))
+        rw same (bound-free (registers ws) (pairs ws) (pairs-in-range ws (a .list .accepted)))
 
   module _ {top two : ℕ} (e : top ≡ common (pairs ws)) {W : List ℕ} (r : Reached ws W two) where
     -- the reaches come back in the first n places, and the split is read from them
     pub two-filled : (scratch answer : List ℕ) {answer′ : List ℕ} → answer′ ≡ over (take n answer ++ timings (top - two) (lateAbove two (take n (W ++ drop n scratch)))) answer
         → TwoIn ws n answer answer′ scratch (W ++ drop n scratch) two
     two-filled scratch answer stored =
-        let size : length W ≡ n = r .size ∙ sym (a .registersAre) in
+        let size : length W ≡ n = r .size ∙ sym (a .list .registersAre) in
         let front : take n (W ++ drop n scratch) ≡ W = take-at W (drop n scratch) n size in
         record {
           period = r .period;
@@ -146,9 +143,9 @@ F ws = freeSchedule (registers ws) (pairs ws)
 abbrev C : List ℕ → List ℕ
 C ws = twoTimings (registers ws) (pairs ws)
 
-module _ (ws answer scratch : List ℕ) {n m : ℕ} (a : Allowed ws n m (length answer) (length scratch)) where
+module _ (ws answer scratch : List ℕ) {n m : ℕ} (a : PlanAllowed ws n m (length answer) (length scratch)) where
   whole : Unbeaten (registers ws) (pairs ws) (common (pairs ws)) (freePeriod (registers ws) (pairs ws)) (twoPeriod (registers ws) (pairs ws)) (twoOffset (registers ws) (pairs ws)) (F ws) (C ws)
-  whole = plan-unbeaten (registers ws) (pairs ws) (pairs-in-range ws (a .accepted))
+  whole = plan-unbeaten (registers ws) (pairs ws) (pairs-in-range ws (a .list .accepted))
 
   outcome : planning ws (length answer) (length scratch)
       ≡ done (common (pairs ws) ∷ freePeriod (registers ws) (pairs ws) ∷ twoPeriod (registers ws) (pairs ws) ∷ twoOffset (registers ws) (pairs ws) ∷ []) ((F ws) ++ (C ws))
@@ -160,13 +157,13 @@ module _ (ws answer scratch : List ℕ) {n m : ℕ} (a : Allowed ws n m (length 
     stored : A₂ ≡ over ((F ws) ++ (C ws)) answer
     stored =
         t .places ∙ ap (λ (x : List ℕ). over (take n x ++ (C ws)) x) (f .places)
-        ∙ over-twice (F ws) (C ws) answer n (whole .freely .size ∙ sym (a .registersAre)) (omega (arith, whole .split .size, a .registersAre, a .answers))
+        ∙ over-twice (F ws) (C ws) answer n (whole .freely .size ∙ sym (a .list .registersAre)) (omega (arith, whole .split .size, a .list .registersAre, a .answers))
 
     zeros : S₂ ≡ over (replicate (scratchPlaces (registers ws) (pairCount ws)) 0) scratch
     zeros =
         cleared
         ∙ ap (λ (x : List ℕ). replicate (scratchPlaces n m) 0 ++ x) (drop-further n (scratchPlaces n m) scratch S₁ (omega arith) (t .rest))
-        ∙ rw (length-replicate, a .registersAre, a .pairsAre)
+        ∙ rw (length-replicate, a .list .registersAre, a .list .pairsAre)
 
     front : take (registers ws) A₂ ≡ (F ws)
     front = ap (take (registers ws)) (stored ∙ append-assoc (F ws) (C ws) _) ∙ take-at (F ws) _ (registers ws) (whole .freely .size)

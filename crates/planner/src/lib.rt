@@ -3,7 +3,7 @@
 ghost use mathlib.Core.Path.{_≡_};
 ghost use lib.ListN.{length};
 ghost use Rattle.refusals.specs.Checks.{firstFault};
-ghost use Rattle.planner.specs.PlanCall.{planCallChecks, Allowed, TwoIn, PlanAs};
+ghost use Rattle.planner.specs.PlanCall.{planCallChecks, PlanAllowed, TwoIn, PlanAs};
 ghost use Rattle.list_format.specs.Lists.{registers, pairs};
 ghost use Rattle.free_laws.specs.Free.{common as commonOf, freePeriod};
 use list_format::Verdict;
@@ -19,9 +19,10 @@ pub enum Planning {
 fn call_fault(n: u32, m: u32, room: usize, spare: usize) -> Fault
     ensures { λ r. ⌜ r ≡ firstFault (planCallChecks n m room spare) ⌝ }
 {
+    let need = timing::scratch_places(n as usize, m as usize);
     Fault::None
         .or(room < 2 * (n as usize), 2, 0)
-        .or(spare < 6 * (n as usize) + 4 * (m as usize), 1, 0)
+        .or(spare < need, 1, 0)
 }
 
 // The two-timing period of an accepted list with that common and that free period; the split's timings fill n places from
@@ -35,7 +36,7 @@ fn fill_split(
     answer: &mut [u32],
     scratch: &mut [u32],
 ) -> u32
-    requires { ⌜ Allowed (now words) n m (length (now answer)) (length (now scratch)) × (common ≡ commonOf (pairs (now words))) × (free ≡ freePeriod (registers (now words)) (pairs (now words))) ⌝ }
+    requires { ⌜ PlanAllowed (now words) n m (length (now answer)) (length (now scratch)) × (common ≡ commonOf (pairs (now words))) × (free ≡ freePeriod (registers (now words)) (pairs (now words))) ⌝ }
     ensures { λ r. ⌜ TwoIn (now (words .entry)) n (now (answer .entry)) (now (answer .exit)) (now (scratch .entry)) (now (scratch .exit)) r ⌝ }
 {
     let two = reach::two_period(words, m, common, free - 1, &mut scratch[..n]);
@@ -45,13 +46,14 @@ fn fill_split(
 
 // The plan of an accepted list with n registers and m pairs; the scratch is left zero.
 fn show(words: &[u32], n: usize, m: usize, answer: &mut [u32], scratch: &mut [u32]) -> Planning
-    requires { ⌜ Allowed (now words) n m (length (now answer)) (length (now scratch)) ⌝ }
+    requires { ⌜ PlanAllowed (now words) n m (length (now answer)) (length (now scratch)) ⌝ }
     ensures { λ r. ⌜ PlanAs (now (words .entry)) (now (answer .entry)) (now (answer .exit)) (now (scratch .entry)) (now (scratch .exit)) r ⌝ }
 {
+    let end = timing::scratch_places(n, m);
     let common = free_climb::common(words, m);
     let free = free_schedule::fill(words, n, m, answer);
     let two = fill_split(words, n, m, common, free, answer, scratch);
-    buffers::clear(scratch, 6 * n + 4 * m);
+    buffers::clear(scratch, end);
     let offset = common - two;
     Planning::Planned(common, free, two, offset)
 }

@@ -16,15 +16,15 @@ use Rattle.split_laws.specs.Marks.{Agrees, splitOf, MarksClosed}
 use Rattle.split_laws.proofs.ClosureLaws.{first-none, first-found}
 use Rattle.propagate.specs.Store.{flagsTo, Lent, Prepared, Decided, chosen}
 use Rattle.propagate.specs.Passes.{Working, Propagated}
-use Rattle.propagate.proofs.StoreLaws.{flags-length, recorded, brought-back}
+use Rattle.propagate.proofs.StoreLaws.{lent-room, flags-length, recorded, brought-back}
 
 module _ (t s : ℕ) (ws : List ℕ) (n : ℕ) where
   -- ---- the marks cleared, and the flags recorded in the part lent
-  pub prepared : (S : List ℕ) {S₁ F : List ℕ} → Lent ws n S → S₁ ≡ replicate n 0 ++ drop n S
+  pub prepared : (S : List ℕ) {m : ℕ} {S₁ F : List ℕ} → Lent ws n m S → S₁ ≡ replicate n 0 ++ drop n S
       → F ≡ over (flagsTo t s ws (4 * pairCount ws)) (take (length S₁ - 6 * n) (drop (6 * n) S₁))
       → Prepared t s ws n S (take (6 * n) S₁ ++ (F ++ drop (length S₁ - 6 * n) (drop (6 * n) S₁)))
   prepared S {S₁} {F} lent e f = rw is (record {
-    size = simp (length-append, length-drop) (omega (arith, size₁, front, width, lent .room));
+    size = simp (length-append, length-drop) (omega (arith, size₁, front, width, lent-room lent));
     blank = take-append-le n (take (6 * n) S₁) behind (omega (arith, front)) ∙ take-take n (6 * n) S₁ (omega arith) ∙ ap (take n) e
         ∙ take-at (replicate n 0) (drop n S) n (length-replicate n 0);
     flags = rw (drop-at (take (6 * n) S₁) behind (6 * n) front) (recorded t s ws _);
@@ -42,16 +42,16 @@ module _ (t s : ℕ) (ws : List ℕ) (n : ℕ) where
       width = flags-length t s ws (4 * pairCount ws)
 
       size₁ : length S₁ ≡ length S
-      size₁ = ap length e ∙ simp (length-append, length-replicate, length-drop) (omega (arith, lent .room))
+      size₁ = ap length e ∙ simp (length-append, length-replicate, length-drop) (omega (arith, lent-room lent))
 
       front : length (take (6 * n) S₁) ≡ 6 * n
-      front = length-take-le (6 * n) S₁ (omega (arith, size₁, lent .room))
+      front = length-take-le (6 * n) S₁ (omega (arith, size₁, lent-room lent))
 
       is : take (6 * n) S₁ ++ (F ++ drop (length S₁ - 6 * n) (drop (6 * n) S₁)) ≡ take (6 * n) S₁ ++ behind
       is = brought-back (6 * n) (flagsTo t s ws (4 * pairCount ws)) S₁ F f
 
   -- ---- the passes decide
-  module _ (S S₂ : List ℕ) {S₁ : List ℕ} (lent : Lent ws n S) (start : Prepared t s ws n S S₁) where
+  module _ (S S₂ : List ℕ) {m : ℕ} {S₁ : List ℕ} (lent : Lent ws n m S) (start : Prepared t s ws n S S₁) where
     working : (c : List Bool) → works t s (pairs ws) c ≡ true → Working ws (drop (6 * n) S₁) c
     working c w = record { period = t; offset = s; flags = start .flags; works = w }
 
@@ -59,7 +59,7 @@ module _ (t s : ℕ) (ws : List ℕ) (n : ℕ) where
     blank c i z = absurd (z (ap (λ (M : List ℕ). getD M i 0) (start .blank) ∙ zero-at n i))
 
     size : Propagated ws n S₁ S₂ true → length (take n S₂) ≡ n
-    size h = length-take-le n S₂ (omega (arith, h .carried .size, start .size, lent .room))
+    size h = length-take-le n S₂ (omega (arith, h .carried .size, start .size, lent-room lent))
 
     first-is : (r : Bool) → Propagated ws n S₁ S₂ r → firstSplit n t s (pairs ws) ≡ chosen r (splitOf (take n S₂))
     first-is true h =

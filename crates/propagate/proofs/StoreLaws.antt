@@ -5,6 +5,7 @@ use Prim.Native.Nat.{ℕ, zero, suc, _+_, _-_, _*_, _/_, _%_, _≤_, _<_}
 use native.Mathlib.Omega.{arith}
 use lib.ListN.{length-map, length, getD, take, drop, length-drop, drop-of-length-le, List·getD-append}
 use lib.Seq.{ext-getD, getD-take, length-take-le, getD-drop, take-all, drop-drop}
+use Rattle.timing.specs.Limits.{scratchPlaces}
 use Rattle.buffers.specs.Run.{run}
 use Rattle.buffers.specs.Over.{over}
 use Rattle.buffers.proofs.RunLaws.{run-length, run-at}
@@ -15,8 +16,11 @@ use Rattle.split_laws.specs.Marks.{splitOf, Flagged}
 use Rattle.split_laws.proofs.ClosureLaws.{time-of, length-splitOf, getD-splitOf}
 use Rattle.propagate.specs.Store.{flagsTo, fourAt, Recorded, Lent}
 
-pub lent-kept : {ws : List ℕ} {n : ℕ} {S S′ : List ℕ} → Lent ws n S → length S′ ≡ length S → Lent ws n S′
-lent-kept r e = record { accepted = r .accepted; registersAre = r .registersAre; room = rw e (r .room) }
+pub lent-kept : {ws : List ℕ} {n m : ℕ} {S S′ : List ℕ} → Lent ws n m S → length S′ ≡ length S → Lent ws n m S′
+lent-kept r e = record { list = r .list; room = rw e (r .room) }
+
+pub lent-room : {ws : List ℕ} {n m : ℕ} {S : List ℕ} → Lent ws n m S → scratchPlaces n (pairCount ws) ≤ length S
+lent-room r = omega (arith, r .room, r .list .pairsAre)
 
 -- ---- flags
 

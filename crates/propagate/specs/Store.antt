@@ -5,8 +5,9 @@ use mathlib.Core.Bool.{Bool, true, false}
 use mathlib.Core.List.{List, [], _∷_}
 use Prim.Native.Nat.{ℕ, _+_, _*_, _/_, _%_, _≤_, _<_}
 use lib.ListN.{length, getD, take, drop, replicate}
+use Rattle.timing.specs.Limits.{scratchPlaces}
 use Rattle.buffers.specs.Run.{run}
-use Rattle.list_format.specs.Lists.{registers, pairCount, pairAt, pairs, IsAccepted}
+use Rattle.list_format.specs.Lists.{pairCount, pairAt, pairs, AcceptedList}
 use Rattle.split_laws.specs.Split.{Found, nothing, found, firstSplit}
 use Rattle.split_laws.specs.Table.{flagAt}
 use Rattle.split_laws.specs.Marks.{Flagged, splitOf}
@@ -23,18 +24,17 @@ fourAt xs at = getD xs at 0 ∷ getD xs (at + 1) 0 ∷ getD xs (at + 2) 0 ∷ ge
 pub record Recorded (t s : ℕ) (ws F : List ℕ) : Type 0 where
   pub each : (k : ℕ) → k < pairCount ws → Flagged t s (pairAt ws k) (fourAt F (4 * k))
 
--- an accepted list with n registers, and room for a trial
-pub record Lent (ws : List ℕ) (n : ℕ) (S : List ℕ) : Type 0 where
-  pub accepted : IsAccepted ws
-  pub registersAre : n ≡ registers ws
-  pub room : 6 * n + 4 * pairCount ws ≤ length S
+-- an accepted list with n registers and m pairs, and room for a trial
+pub record Lent (ws : List ℕ) (n m : ℕ) (S : List ℕ) : Type 0 where
+  pub list : AcceptedList ws n m
+  pub room : scratchPlaces n m ≤ length S
 
 -- the marks are blank, the flags recorded, and what lies behind them is as it was
 pub record Prepared (t s : ℕ) (ws : List ℕ) (n : ℕ) (S S′ : List ℕ) : Type 0 where
   pub size : length S′ ≡ length S
   pub blank : take n S′ ≡ replicate n 0
   pub flags : Recorded t s ws (drop (6 * n) S′)
-  pub rest : drop (6 * n + 4 * pairCount ws) S′ ≡ drop (6 * n + 4 * pairCount ws) S
+  pub rest : drop (scratchPlaces n (pairCount ws)) S′ ≡ drop (scratchPlaces n (pairCount ws)) S
 
 -- true: the marks give the first split; false: there is none
 abbrev pub chosen : Bool → List Bool → Found
@@ -43,5 +43,5 @@ chosen false c = nothing
 
 pub record Decided (t s : ℕ) (ws : List ℕ) (n : ℕ) (S S′ : List ℕ) (r : Bool) : Type 0 where
   pub size : length S′ ≡ length S
-  pub rest : drop (6 * n + 4 * pairCount ws) S′ ≡ drop (6 * n + 4 * pairCount ws) S
+  pub rest : drop (scratchPlaces n (pairCount ws)) S′ ≡ drop (scratchPlaces n (pairCount ws)) S
   pub first : firstSplit n t s (pairs ws) ≡ chosen r (splitOf (take n S′))

@@ -5,7 +5,7 @@ ghost use mathlib.Core.List.{_++_};
 ghost use Prim.Native.Nat.{_+_, _*_, _≤_, _<_};
 ghost use lib.ListN.{length, take, drop, replicate};
 ghost use Rattle.buffers.specs.Over.{over};
-ghost use Rattle.list_format.specs.Lists.{pairCount, IsAccepted};
+ghost use Rattle.list_format.specs.Lists.{registers, AcceptedList};
 ghost use Rattle.split_laws.specs.Split.{timings};
 ghost use Rattle.split_laws.specs.Marks.{splitOf};
 ghost use Rattle.propagate.specs.Store.{flagsTo, fourAt, Lent, Prepared, Decided};
@@ -26,8 +26,8 @@ fn flags_at(scratch: &[u32], at: usize) -> [u32; 4]
 }
 
 // What pair k forces is followed in the marks.
-fn step(words: &[u32], n: usize, k: usize, scratch: &mut [u32]) -> Change
-    requires { ⌜ Lent (now words) n (now scratch) × (k < pairCount (now words)) ⌝ }
+fn step(words: &[u32], n: usize, m: usize, k: usize, scratch: &mut [u32]) -> Change
+    requires { ⌜ Lent (now words) n m (now scratch) × (k < m) ⌝ }
     ensures { λ o. ⌜ Pass (now (words .entry)) n (PairClosed (now (words .entry)) k) (now (scratch .entry)) (now (scratch .exit)) o ⌝ }
 {
     let pair = delay_list::pair_at(words, k);
@@ -37,13 +37,13 @@ fn step(words: &[u32], n: usize, k: usize, scratch: &mut [u32]) -> Change
 
 // One pass over all pairs.
 fn sweep(words: &[u32], n: usize, m: usize, down: bool, scratch: &mut [u32]) -> Change
-    requires { ⌜ Lent (now words) n (now scratch) × (m ≡ pairCount (now words)) ⌝ }
+    requires { ⌜ Lent (now words) n m (now scratch) ⌝ }
     ensures { λ o. ⌜ Pass (now (words .entry)) n (AllClosed (now (words .entry))) (now (scratch .entry)) (now (scratch .exit)) o ⌝ }
 {
     let mut all = Change::Settled;
     let mut i = 0;
     while i < m {
-        let o = step(words, n, delay_list::place(m, i, down), scratch);
+        let o = step(words, n, m, delay_list::place(m, i, down), scratch);
         all = marks::join(all, o);
         i += 1;
     }
@@ -52,7 +52,7 @@ fn sweep(words: &[u32], n: usize, m: usize, down: bool, scratch: &mut [u32]) -> 
 
 // Passes up and down the list until nothing changes: true where no pair forces more, false where a register is forced both ways.
 fn propagate(words: &[u32], n: usize, m: usize, scratch: &mut [u32]) -> bool
-    requires { ⌜ Lent (now words) n (now scratch) × (m ≡ pairCount (now words)) ⌝ }
+    requires { ⌜ Lent (now words) n m (now scratch) ⌝ }
     ensures { λ r. ⌜ Propagated (now (words .entry)) n (now (scratch .entry)) (now (scratch .exit)) r ⌝ }
 {
     let mut down = false;
@@ -68,7 +68,7 @@ fn propagate(words: &[u32], n: usize, m: usize, scratch: &mut [u32]) -> bool
 
 // The broken choices of all pairs, four places to a pair.
 fn record_broken(words: &[u32], period: u32, offset: u32, m: usize, flags: &mut [u32])
-    requires { ⌜ IsAccepted (now words) × (m ≡ pairCount (now words)) × (4 * m ≤ length (now flags)) ⌝ }
+    requires { ⌜ AcceptedList (now words) (registers (now words)) m × (4 * m ≤ length (now flags)) ⌝ }
     ensures { λ _. ⌜ now (flags .exit) ≡ over (flagsTo period offset (now (words .entry)) (4 * m)) (now (flags .entry)) ⌝ }
 {
     let end = 4 * m;
@@ -82,7 +82,7 @@ fn record_broken(words: &[u32], period: u32, offset: u32, m: usize, flags: &mut 
 
 // Blank marks, and the broken choices of the pairs in the part of the scratch from place 6n on.
 fn prepare(words: &[u32], period: u32, offset: u32, n: usize, m: usize, scratch: &mut [u32])
-    requires { ⌜ Lent (now words) n (now scratch) × (m ≡ pairCount (now words)) ⌝ }
+    requires { ⌜ Lent (now words) n m (now scratch) ⌝ }
     ensures { λ _. ⌜ Prepared period offset (now (words .entry)) n (now (scratch .entry)) (now (scratch .exit)) ⌝ }
 {
     buffers::clear(scratch, n);
@@ -99,7 +99,7 @@ pub fn decide(
     m: usize,
     scratch: &mut [u32],
 ) -> bool
-    requires { ⌜ Lent (now words) n (now scratch) × (m ≡ pairCount (now words)) ⌝ }
+    requires { ⌜ Lent (now words) n m (now scratch) ⌝ }
     ensures { λ r. ⌜ Decided period offset (now (words .entry)) n (now (scratch .entry)) (now (scratch .exit)) r ⌝ }
 {
     prepare(words, period, offset, n, m, scratch);

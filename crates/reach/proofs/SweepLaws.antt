@@ -12,8 +12,8 @@ use borrow.Author.Count.{below-more}
 use Rattle.buffers.specs.Run.{run}
 use Rattle.buffers.proofs.RunLaws.{run-length, run-at}
 use Rattle.timing.specs.declared.Pair.{Pair}
-use Rattle.timing.specs.Limits.{maxDelay}
-use Rattle.list_format.specs.Lists.{registers, pairCount, pairAt, pairsFrom, pairs, placeOf, IsPair}
+use Rattle.timing.specs.Limits.{maxPeriod}
+use Rattle.list_format.specs.Lists.{registers, pairCount, pairAt, pairsFrom, pairs, placeOf, IsPair, AcceptedList}
 use Rattle.list_format.proofs.ListLaws.{each-pair, pairs-within, pair-holds, each-place}
 use Rattle.free_laws.specs.Free.{common}
 use Rattle.free_laws.specs.Constraint.{Bound}
@@ -27,7 +27,6 @@ use Rattle.plan_laws.proofs.OffsetLaws.{below-common}
 use Rattle.plan_laws.proofs.ReachLaws.{PairOf, pairs-of, period-from, length-late, late-at, reaches-level}
 use Rattle.plan_laws.proofs.StepLaws.{step-none, step-then, step-with, pair-step}
 use Rattle.plan_laws.proofs.ReachTwo.{period-is, timings-are}
-use Rattle.checker.specs.Check.{Ready}
 use Rattle.reach.specs.Settling.{PairReaching, Reaching, ClosedAt, ClosedAll, Swept, Reached}
 
 -- ---- one pair
@@ -37,7 +36,7 @@ module _ {ws : List ℕ} {count top : ℕ} {W : List ℕ} (r : Reaching ws count
   pub reaching-then : {D : List ℕ → Type 0} {W′ : List ℕ} {o : Bool} → ReachStep top (pairs ws) D W W′ o → Reaching ws count top W′
   reaching-then h =
       record {
-        ready = record { accepted = r .ready .accepted; counted = r .ready .counted; timed = h .size ∙ r .ready .timed };
+        list = record { accepted = r .list .accepted; registersAre = h .size ∙ r .list .registersAre; pairsAre = r .list .pairsAre };
         topIs = r .topIs;
         reaches = h .reaches;
       }
@@ -51,10 +50,10 @@ module _ {ws : List ℕ} {count top : ℕ} {W : List ℕ} (r : Reaching ws count
     pub pair-raisable : PairReaching p top W
     pair-raisable =
         record {
-          inside = record { launch = rw (r .ready .timed) (is .launch); capture = rw (r .ready .timed) (is .capture) };
-          order = omega (arith, is .order, pair-of .under);
+          inside = record { launch = rw (r .list .registersAre) (is .values .launch); capture = rw (r .list .registersAre) (is .values .capture) };
+          order = omega (arith, is .values .order, pair-of .under);
           under = pair-of .under;
-          limit = omega (arith, r .topIs, common-limit maxDelay (omega arith) (pairs ws) (pairs-within ws (r .ready .accepted)));
+          limit = omega (arith, r .topIs, common-limit maxPeriod (omega arith) (pairs ws) (pairs-within ws (r .list .accepted)));
         }
 
     -- both its ends raised
@@ -86,14 +85,14 @@ module _ {ws : List ℕ} {count top : ℕ} {W : List ℕ} (r : Reaching ws count
     pub sweeping-turn : {k : ℕ} {W″ : List ℕ} {o moved′ : Bool} → i < count → k ≡ placeOf count down i → ReachStep top (pairs ws) (ClosedAt ws top k) W′ W″ o → moved′ ≡ (moved || o)
         → Sweeping ws count top down W W″ moved′ (i + 1)
     sweeping-turn {k} l at h e =
-        let place : k ≡ placeOf (pairCount ws) down i = at ∙ ap (λ m. placeOf m down i) (r .ready .counted) in
+        let place : k ≡ placeOf (pairCount ws) down i = at ∙ ap (λ m. placeOf m down i) (r .list .pairsAre) in
         record {
           bound = omega arith;
           step = step-with (λ d. below-more (λ j. ClosedAt ws top (placeOf (pairCount ws) down j) W) i (d .0) (rw place at (d .1))) (step-then e (s .step) h);
         }
 
     pub sweeping-end : count ≤ i → ReachStep top (pairs ws) (ClosedAll ws top) W W′ moved
-    sweeping-end l = step-with (λ d. each-place (λ k. ClosedAt ws top k W) (pairCount ws) down (λ j h. d j (omega (arith, r .ready .counted)))) (s .step)
+    sweeping-end l = step-with (λ d. each-place (λ k. ClosedAt ws top k W) (pairCount ws) down (λ j h. d j (omega (arith, r .list .pairsAre)))) (s .step)
 
   -- a sweep that raised nothing
   pub swept : {W′ : List ℕ} {o : Bool} → ReachStep top (pairs ws) (ClosedAll ws top) W W′ o → o ≡ false → Swept ws count top W′
@@ -141,11 +140,11 @@ module _ {ws W : List ℕ} {most k : ℕ} (a : Asked ws W most k) where
 
 -- ---- from equal reaches to the period and its split
 
-module _ {ws : List ℕ} {count top : ℕ} (floor : ℕ) {W : List ℕ} (ready : Ready ws count W) (e : top ≡ common (pairs ws)) (b : Bound (pairs ws) (floor + 1)) where
+module _ {ws : List ℕ} {count top : ℕ} (floor : ℕ) (W : List ℕ) (list : AcceptedList ws (length W) count) (e : top ≡ common (pairs ws)) (b : Bound (pairs ws) (floor + 1)) where
   pub reaching-start : {W′ : List ℕ} → W′ ≡ replicate (length W) floor ++ drop (length W) W → Reaching ws count top W′
   reaching-start {W′} levelled =
       record {
-        ready = record { accepted = ready .accepted; counted = ready .counted; timed = ap length level ∙ length-replicate (length W) floor ∙ ready .timed };
+        list = record { accepted = list .accepted; registersAre = ap length level ∙ length-replicate (length W) floor ∙ list .registersAre; pairsAre = list .pairsAre };
         topIs = e;
         reaches = rw level (reaches-level top (pairs ws) (length W) floor (omega (arith, e, bound-common b)) b);
       }
@@ -158,8 +157,8 @@ reached {ws} {count} {top} {W} {two} s e =
     let r = s .reaching in
     let reaches = rw (r .topIs) at (r .reaches) in
     let closed = each-pair ws (ReachClosed (common (pairs ws)) W) (λ k h. rw (r .topIs) at (s .closed k h)) in
-    let period : two ≡ twoPeriod (registers ws) (pairs ws) = e ∙ period-is (registers ws) (pairs ws) W (r .ready .timed) reaches closed in
-    record { period = period; split = rw period (timings-are (registers ws) (pairs ws) W (r .ready .timed) reaches closed); size = r .ready .timed }
+    let period : two ≡ twoPeriod (registers ws) (pairs ws) = e ∙ period-is (registers ws) (pairs ws) W (r .list .registersAre) reaches closed in
+    record { period = period; split = rw period (timings-are (registers ws) (pairs ws) W (r .list .registersAre) reaches closed); size = r .list .registersAre }
 
 -- ---- the split's timings, one by one
 

@@ -5,24 +5,23 @@ use mathlib.Core.Path.{_≡_}
 use lib.ListN.{length}
 use Rattle.timing.specs.declared.Pair.{Pair}
 use Rattle.timing.specs.Rules.{InRange}
-use Rattle.timing.specs.Limits.{maxDelay}
-use Rattle.list_format.specs.Lists.{registers, pairCount, pairAt, pairs}
+use Rattle.timing.specs.Limits.{maxPeriod}
+use Rattle.list_format.specs.Lists.{registers, pairCount, pairAt, pairs, AcceptedList}
 use Rattle.free_laws.specs.Free.{common}
 use Rattle.split_laws.specs.Split.{timings}
 use Rattle.plan_laws.specs.Plan.{twoPeriod, twoOffset, twoTimings}
 use Rattle.plan_laws.specs.Reach.{Reaches, ReachClosed, lateAbove}
-use Rattle.checker.specs.Check.{Ready}
 
 -- a pair with a reach for each of its registers, and delays no more than top
 pub record PairReaching (p : Pair) (top : ℕ) (W : List ℕ) : Type 0 where
   pub inside : InRange (length W) p
   pub order : p .least ≤ top
   pub under : p .greatest ≤ top
-  pub limit : top ≤ maxDelay
+  pub limit : top ≤ maxPeriod
 
 -- an accepted list with its common period, and reaches of its registers
 pub record Reaching (ws : List ℕ) (count top : ℕ) (W : List ℕ) : Type 0 where
-  pub ready : Ready ws count W
+  pub list : AcceptedList ws (length W) count
   pub topIs : top ≡ common (pairs ws)
   pub reaches : Reaches top (pairs ws) W
 

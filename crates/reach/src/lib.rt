@@ -8,12 +8,11 @@ ghost use Prim.Native.Nat.{_+_, _≤_, _<_, max, min};
 ghost use lib.Dec.{ltb};
 ghost use lib.ListN.{length, take};
 ghost use Rattle.buffers.specs.Over.{over};
-ghost use Rattle.list_format.specs.Lists.{pairs};
+ghost use Rattle.list_format.specs.Lists.{pairs, AcceptedList};
 ghost use Rattle.free_laws.specs.Free.{common};
 ghost use Rattle.free_laws.specs.Constraint.{Bound};
 ghost use Rattle.split_laws.specs.Split.{timeOf, timings};
 ghost use Rattle.plan_laws.specs.Reach.{reachOf, ahead, behind, reachPeriod, lateAbove, Raised, ReachStep};
-ghost use Rattle.checker.specs.Check.{Ready};
 ghost use Rattle.reach.specs.Settling.{PairReaching, Reaching, ClosedAt, ClosedAll, Swept, Reached};
 use timing::Pair;
 use timing::larger;
@@ -107,7 +106,7 @@ fn asked(p: Pair, reach: &[u32]) -> u32
 
 // The longest such period, or 1.
 fn period(words: &[u32], count: usize, reach: &[u32]) -> u32
-    requires { ⌜ Ready (now words) count (now reach) ⌝ }
+    requires { ⌜ AcceptedList (now words) (length (now reach)) count ⌝ }
     ensures { λ r. ⌜ r ≡ reachPeriod 1 (pairs (now (words .entry))) (now (reach .entry)) ⌝ }
 {
     let mut most = 1;
@@ -123,7 +122,7 @@ fn period(words: &[u32], count: usize, reach: &[u32]) -> u32
 // The two-timing period of an accepted list with the common period `top` and a free period above `floor`; the reaches are left
 // in the n places lent.
 pub fn two_period(words: &[u32], count: usize, top: u32, floor: u32, reach: &mut [u32]) -> u32
-    requires { ⌜ Ready (now words) count (now reach) × (top ≡ common (pairs (now words))) × Bound (pairs (now words)) (floor + 1) ⌝ }
+    requires { ⌜ AcceptedList (now words) (length (now reach)) count × (top ≡ common (pairs (now words))) × Bound (pairs (now words)) (floor + 1) ⌝ }
     ensures { λ r. ⌜ Reached (now (words .entry)) (now (reach .exit)) r ⌝ }
 {
     let n = reach.len();

@@ -17,12 +17,12 @@ use Rattle.refusals.proofs.ReplyLaws.{answered-done, first-refused, then-refuse
 use Rattle.list_format.specs.Lists.{registers, pairCount, pairs, listChecks, verdict}
 use Rattle.list_format.specs.declared.Verdict.the-variants.{Accepted}
 use Rattle.list_format.specs.declared.Verdict.the-variants.{Refused as ListRefused}
-use Rattle.list_format.proofs.ListLaws.{refused→fault, accepted→none, none→accepted}
+use Rattle.list_format.proofs.ListLaws.{refused→fault, accepted→none}
 use Rattle.split_laws.specs.Split.{timings, firstSplit}
 use Rattle.split_laws.specs.Marks.{splitOf}
 use Rattle.propagate.specs.Store.{Decided, chosen}
 use Rattle.split.specs.declared.Splitting.the-variants.{Split, NoSplit, Refused}
-use Rattle.split.specs.Splitting.{splitCallChecks, splitChecks, splitOutcome, splitting, splitReply, SplitAs, Allowed}
+use Rattle.split.specs.Splitting.{splitCallChecks, splitChecks, splitOutcome, splitting, splitReply, SplitAs, SplitAllowed}
 
 module _ (ws : List ℕ) (period offset : ℕ) (answer scratch : List ℕ) where
   -- a refusal changes nothing
@@ -41,13 +41,13 @@ module _ (ws : List ℕ) (period offset : ℕ) (answer scratch : List ℕ) where
     fault-is : f ≡ firstFault (splitCallChecks (registers ws) (pairCount ws) period offset (length answer) (length scratch))
     fault-is =
         let a = accepted→none ws v in
-        rw (a .registersAre, a .pairsAre) at e
+        rw (a .list .registersAre, a .list .pairsAre) at e
 
     pub call-refused : {number place : ℕ} → f ≡ At number place → SplitAs ws period offset answer answer scratch scratch (Refused number place)
     unfolding splitting
     call-refused g = kept (then-refused (listChecks ws) _ _ (accepted→none ws v .none) (sym fault-is ∙ g))
 
-    pub call-allowed : f ≡ None → Allowed ws period offset n m answer scratch
+    pub call-allowed : f ≡ None → SplitAllowed ws period offset n m answer scratch
     call-allowed g =
         let a = accepted→none ws v in
         let call = splitCallChecks (registers ws) (pairCount ws) period offset (length answer) (length scratch) in
@@ -56,24 +56,23 @@ module _ (ws : List ℕ) (period offset : ℕ) (answer scratch : List ℕ) where
         let k : scratchPlaces (registers ws) (pairCount ws) ≤ length scratch = ltb-false _ _ (p .1 .1 .1 .1 .0) in
         record {
           none = pass-both (listChecks ws) call (a .none) (sym fault-is ∙ g);
-          lent = record { accepted = none→accepted ws (a .none); registersAre = a .registersAre; room = omega (arith, a .registersAre) };
-          pairsAre = a .pairsAre;
-          room = omega (arith, a .registersAre);
+          lent = record { list = a .list; room = omega (arith, a .list .registersAre, a .list .pairsAre) };
+          room = omega (arith, a .list .registersAre);
         }
 
   -- ---- an allowed call
-  module _ {n m : ℕ} (a : Allowed ws period offset n m answer scratch) where
+  module _ {n m : ℕ} (a : SplitAllowed ws period offset n m answer scratch) where
     -- what the trial decided, and the scratch cleared after it
     module _ (S S′ : List ℕ) {r : Bool} (d : Decided period offset ws n scratch S r) (cleared : S′ ≡ replicate (scratchPlaces n m) 0 ++ drop (scratchPlaces n m) S) where
       zeros : S′ ≡ over (replicate (scratchPlaces (registers ws) (pairCount ws)) 0) scratch
-      zeros = cleared ∙ rw (length-replicate, a .pairsAre, d .rest, a .lent .registersAre)
+      zeros = cleared ∙ rw (length-replicate, a .lent .list .pairsAre, d .rest, a .lent .list .registersAre)
 
       outcome : (b : Bool) → r ≡ b → splitting ws period offset (length answer) (length scratch) ≡ splitOutcome offset (chosen b (splitOf (take n S)))
       unfolding splitting
       outcome b e =
           answered-done (splitChecks ws period offset (length answer) (length scratch)) _ (a .none)
           ∙ ap (splitOutcome offset)
-          (ap (λ (k : ℕ). firstSplit k period offset (pairs ws)) (sym (a .lent .registersAre)) ∙ d .first ∙ ap (λ (x : Bool). chosen x (splitOf (take n S))) e)
+          (ap (λ (k : ℕ). firstSplit k period offset (pairs ws)) (sym (a .lent .list .registersAre)) ∙ d .first ∙ ap (λ (x : Bool). chosen x (splitOf (take n S))) e)
 
       pub none-shown : r ≡ false → SplitAs ws period offset answer answer scratch S′ NoSplit
       unfolding splitOutcome replyOf bufferAfter scratchAfter splitReply

@@ -51,8 +51,7 @@ pub record SplitAs (ws : List ℕ) (period offset : ℕ) (answer answer′ scrat
   pub left : scratch′ ≡ scratchAfter (splitting ws period offset (length answer) (length scratch)) (scratchPlaces (registers ws) (pairCount ws)) scratch
 
 -- a call that no refusal fits, of a list with n registers and m pairs
-pub record Allowed (ws : List ℕ) (period offset n m : ℕ) (answer scratch : List ℕ) : Type 0 where
+pub record SplitAllowed (ws : List ℕ) (period offset n m : ℕ) (answer scratch : List ℕ) : Type 0 where
   pub none : firstFault (splitChecks ws period offset (length answer) (length scratch)) ≡ None
-  pub lent : Lent ws n scratch
-  pub pairsAre : m ≡ pairCount ws
+  pub lent : Lent ws n m scratch
   pub room : n ≤ length answer

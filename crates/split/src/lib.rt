@@ -2,7 +2,7 @@
 // The contracts cite `specs/Splitting.antt`; what a split is stands in `split_laws`.
 ghost use mathlib.Core.Path.{_≡_};
 ghost use Rattle.refusals.specs.Checks.{firstFault};
-ghost use Rattle.split.specs.Splitting.{splitCallChecks, SplitAs, Allowed};
+ghost use Rattle.split.specs.Splitting.{splitCallChecks, SplitAs, SplitAllowed};
 use list_format::Verdict;
 use refusals::Fault;
 
@@ -17,12 +17,13 @@ pub enum Splitting {
 fn call_fault(n: u32, m: u32, period: u32, offset: u32, room: usize, spare: usize) -> Fault
     ensures { λ r. ⌜ r ≡ firstFault (splitCallChecks n m period offset room spare) ⌝ }
 {
+    let need = timing::scratch_places(n as usize, m as usize);
     Fault::None
         .or(period == 0, 3, 0)
         .or(period > timing::MAX_PERIOD, 3, 0)
         .or(offset > timing::MAX_OFFSET, 3, 0)
         .or(room < (n as usize), 2, 0)
-        .or(spare < 6 * (n as usize) + 4 * (m as usize), 1, 0)
+        .or(spare < need, 1, 0)
 }
 
 // The first split of an accepted list with n registers and m pairs; the scratch is left zero.
@@ -35,10 +36,10 @@ fn show(
     answer: &mut [u32],
     scratch: &mut [u32],
 ) -> Splitting
-    requires { ⌜ Allowed (now words) period offset n m (now answer) (now scratch) ⌝ }
+    requires { ⌜ SplitAllowed (now words) period offset n m (now answer) (now scratch) ⌝ }
     ensures { λ r. ⌜ SplitAs (now (words .entry)) period offset (now (answer .entry)) (now (answer .exit)) (now (scratch .entry)) (now (scratch .exit)) r ⌝ }
 {
-    let end = 6 * n + 4 * m;
+    let end = timing::scratch_places(n, m);
     if !propagate::decide(words, period, offset, n, m, scratch) {
         buffers::clear(scratch, end);
         return Splitting::NoSplit;

@@ -1,5 +1,5 @@
 -- The limits of a delay list and of a call, each named once. Times are in picoseconds.
-use Prim.Native.Nat.{ℕ, _+_, _*_}
+use Prim.Native.Nat.{ℕ, _+_, _-_, _*_}
 
 -- registers, 1 to this many
 abbrev pub maxRegisters : ℕ
@@ -21,11 +21,12 @@ maxPeriod = 1_000_000
 abbrev pub maxOffset : ℕ
 maxOffset = 1_000_000
 
--- timing of a register, 0 to this
+-- timing of a register, 0 to this: each register but one may be a longest period later than another
 abbrev pub maxTiming : ℕ
-maxTiming = 511_000_000
+maxTiming = (maxRegisters - 1) * maxPeriod
 
--- the places of scratch that a split or a plan of n registers and m pairs takes: the first 6n serve the registers, the rest the pairs
+-- the places of scratch that a split or a plan of n registers and m pairs takes: the first 6n serve the registers,
+-- the rest the pairs
 abbrev pub scratchPlaces : ℕ → ℕ → ℕ
 scratchPlaces n m = 6 * n + 4 * m
 

@@ -1,7 +1,8 @@
 // A pair of registers with the delays of the logic between them, and its two timing rules.
 // The contracts cite `specs/Rules.antt`; the limits stand again, one by one, in `specs/Limits.antt`.
 ghost use mathlib.Core.Path.{_≡_};
-ghost use Prim.Native.Nat.{_-_, max, min};
+ghost use Prim.Native.Nat.{_-_, _^_, _<_, max, min};
+ghost use Rattle.timing.specs.Limits.{scratchPlaces};
 ghost use Rattle.timing.specs.Rules.{setupMet, holdMet};
 
 // The limits of a delay list and of a call, each named once. Times are in picoseconds.
@@ -15,7 +16,8 @@ pub const MAX_PERIOD: u32 = 1_000_000;
 
 pub const MAX_OFFSET: u32 = 1_000_000;
 
-pub const MAX_TIMING: u32 = 511_000_000;
+// Each register but one may be a longest period later than another.
+pub const MAX_TIMING: u32 = (MAX_REGISTERS - 1) * MAX_PERIOD;
 
 // The places of scratch that the largest list takes.
 pub const MAX_SCRATCH: usize = 6 * MAX_REGISTERS as usize + 4 * MAX_PAIRS;
@@ -42,6 +44,14 @@ impl Pair {
     {
         (capture_time as u64) <= (launch_time as u64) + (self.least as u64)
     }
+}
+
+// The places of scratch that a split or a plan of n registers and m pairs takes.
+pub fn scratch_places(n: usize, m: usize) -> usize
+    requires { ⌜ scratchPlaces n m < 2 ^ 64 ⌝ }
+    ensures { λ r. ⌜ r ≡ scratchPlaces n m ⌝ }
+{
+    6 * n + 4 * m
 }
 
 pub fn larger(a: u32, b: u32) -> u32

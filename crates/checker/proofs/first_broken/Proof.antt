@@ -16,7 +16,7 @@ abbrev μ-loop : tie.MeasureT-loop
 meets-requires : tie.Need-meets-requires Inv-loop μ-loop
 meets-requires c κs =
     let ready = c .before .before .before .before .pre in
-    (record { accepted = ready .accepted; below = omega arith }, ready .timed)
+    (record { accepted = ready .accepted; below = omega arith }, ready .registersAre)
 
 loop-again : tie.Need-loop-again Inv-loop μ-loop
 loop-again c = looked-turn (c .before .before .before .loop .inv) (omega arith) (sym (c .before .meets .ensures) ∙ c .if1 .taken)

@@ -8,7 +8,7 @@ use Rattle.checker.proofs.passes.Tie as tie
 returns : tie.Need-returns
 returns c =
     let a = c .before .before .before .args in
-    rw (c .first-broken .ensures, c .before .before .before .pre .counted) (none-test (now (a .words)) (a .period) (now (a .timings)))
+    rw (c .first-broken .ensures, c .before .before .before .pre .pairsAre) (none-test (now (a .words)) (a .period) (now (a .timings)))
 
 pub passes-spec : {M : Type 1} → statement M
 passes-spec = tie.close (tie.spec (λ c κs. search needs) returns)

@@ -20,29 +20,29 @@ loop-holds : tie.Need-loop-holds Inv-loop μ-loop
 loop-holds c = climbing-after (c .before .before .before .before .before .before .before .pre) (c .before .before .quick .kept .1 .1 .0) (c .before .before .quick .ensures)
 
 quick-requires-2 : tie.Need-quick-requires-2 Inv-loop μ-loop
-quick-requires-2 c κs = climbing-tries (c .before .before .before .before .before .before .before .before .before .before .pre .ready) (c .before .before .loop .inv) (c .before .loop-test .taken)
+quick-requires-2 c κs = climbing-tries (c .before .before .before .before .before .before .before .before .before .before .pre .list) (c .before .before .loop .inv) (c .before .loop-test .taken)
 
 loop-less : tie.Need-loop-less Inv-loop μ-loop
 loop-less c =
     let l = c .before .before .before .before in
-    omega (arith, bound-common (climbing-tries (c .before .before .before .before .before .before .before .before .before .before .before .before .before .pre .ready) (l .before .loop .inv) (l .loop-test .taken) .bound))
+    omega (arith, bound-common (climbing-tries (c .before .before .before .before .before .before .before .before .before .before .before .before .before .pre .list) (l .before .loop .inv) (l .loop-test .taken) .bound))
 
 loop-again : tie.Need-loop-again Inv-loop μ-loop
 loop-again c =
     let l = c .before .before .before .before in
-    climbing-after (climbing-tries (c .before .before .before .before .before .before .before .before .before .before .before .before .before .pre .ready) (l .before .loop .inv) (l .loop-test .taken)) (c .before .before .quick2 .kept .1 .1 .0) (c .before .before .quick2 .ensures)
+    climbing-after (climbing-tries (c .before .before .before .before .before .before .before .before .before .before .before .before .before .pre .list) (l .before .loop .inv) (l .loop-test .taken)) (c .before .before .quick2 .kept .1 .1 .0) (c .before .before .quick2 .ensures)
 
 same-length : tie.Need-same-length Inv-loop μ-loop
-same-length c = c .before .before .loop .inv .size ∙ sym (c .before .before .before .before .before .before .before .before .before .before .pre .ready .timed)
+same-length c = c .before .before .loop .inv .size ∙ sym (c .before .before .before .before .before .before .before .before .before .before .pre .list .registersAre)
 
 returns : tie.Need-returns Inv-loop μ-loop
-returns c = ascended-undecided (c .before .before .before .before .before .before .before .before .before .before .pre .ready) (c .before .before .loop .inv)
+returns c = ascended-undecided (c .before .before .before .before .before .before .before .before .before .before .pre .list) (c .before .before .loop .inv)
 
 same-length-2 : tie.Need-same-length-2 Inv-loop μ-loop
-same-length-2 c = c .before .before .loop .inv .size ∙ sym (c .before .before .before .before .before .before .before .before .before .before .pre .ready .timed)
+same-length-2 c = c .before .before .loop .inv .size ∙ sym (c .before .before .before .before .before .before .before .before .before .before .pre .list .registersAre)
 
 returns-2 : tie.Need-returns-2 Inv-loop μ-loop
-returns-2 c = ascended-settled (c .before .before .before .before .before .before .before .before .before .before .pre .ready) (c .before .before .loop .inv) (c .if1 .left) (c .before .loop-test .left)
+returns-2 c = ascended-settled (c .before .before .before .before .before .before .before .before .before .before .pre .list) (c .before .before .loop .inv) (c .if1 .left) (c .before .loop-test .left)
 
 pub ascend-spec : {M : Type 1} → statement M
 ascend-spec =

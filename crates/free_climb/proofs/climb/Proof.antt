@@ -10,7 +10,7 @@ ordered-requires c κs =
     let r = c .before .before .before .before .before .before .before .before .before .before .before .before .pre in
     let a = c .before .before .before .before .before .before .ascend in
     let u = a .ensures .undecided _ (c .before .before .period2 .given .1) in
-    trial-of r (a .kept .1 .1 .0 ∙ r .timed) (u .0) (u .1)
+    trial-of r (a .kept .1 .1 .0 ∙ r .registersAre) (u .0) (u .1)
 
 returns : tie.Need-returns
 returns c = c .before .before .before .before .before .ascend .ensures .settled _ (c .before .period .given .1)

@@ -22,24 +22,24 @@ loop-holds c =
     (climbing-after (c .before .before .before .before .before .before .pre) (t .kept .1 .1 .0) (record { tried = λ h. t .ensures }), t .ensures .onward)
 
 steady-requires-2 : tie.Need-steady-requires-2 Inv-loop μ-loop
-steady-requires-2 c κs = climbing-tries (c .before .before .before .before .before .before .before .before .before .pre .ready) (c .before .before .loop .inv .0) (c .before .loop-test .taken)
+steady-requires-2 c κs = climbing-tries (c .before .before .before .before .before .before .before .before .before .pre .list) (c .before .before .loop .inv .0) (c .before .loop-test .taken)
 
 loop-less : tie.Need-loop-less Inv-loop μ-loop
 loop-less c =
     let l = c .before .before .before .before in
-    omega (arith, bound-common (climbing-tries (c .before .before .before .before .before .before .before .before .before .before .before .before .pre .ready) (l .before .loop .inv .0) (l .loop-test .taken) .bound))
+    omega (arith, bound-common (climbing-tries (c .before .before .before .before .before .before .before .before .before .before .before .before .pre .list) (l .before .loop .inv .0) (l .loop-test .taken) .bound))
 
 loop-again : tie.Need-loop-again Inv-loop μ-loop
 loop-again c =
     let t = c .before .before .steady2 in
     let l = c .before .before .before .before in
-    (climbing-after (climbing-tries (c .before .before .before .before .before .before .before .before .before .before .before .before .pre .ready) (l .before .loop .inv .0) (l .loop-test .taken)) (t .kept .1 .1 .0) (record { tried = λ h. t .ensures }), t .ensures .onward)
+    (climbing-after (climbing-tries (c .before .before .before .before .before .before .before .before .before .before .before .before .pre .list) (l .before .loop .inv .0) (l .loop-test .taken)) (t .kept .1 .1 .0) (record { tried = λ h. t .ensures }), t .ensures .onward)
 
 same-length : tie.Need-same-length Inv-loop μ-loop
-same-length c = c .before .loop .inv .0 .size ∙ sym (c .before .before .before .before .before .before .before .before .pre .ready .timed)
+same-length c = c .before .loop .inv .0 .size ∙ sym (c .before .before .before .before .before .before .before .before .pre .list .registersAre)
 
 returns : tie.Need-returns Inv-loop μ-loop
-returns c = climbing-end (c .before .before .before .before .before .before .before .before .pre .ready) (c .before .loop .inv .0) (c .before .loop .inv .1) (c .loop-test .left)
+returns c = climbing-end (c .before .before .before .before .before .before .before .before .pre .list) (c .before .loop .inv .0) (c .before .loop .inv .1) (c .loop-test .left)
 
 pub finish-spec : {M : Type 1} → statement M
 finish-spec = tie.close (tie.spec Inv-loop μ-loop (λ c κs. search needs) loop-holds steady-requires-2 loop-less loop-again same-length returns)

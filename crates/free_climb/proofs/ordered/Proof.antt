@@ -11,15 +11,15 @@ use Rattle.free_climb.proofs.ordered.Tie as tie
 lay-out-requires : tie.Need-lay-out-requires
 lay-out-requires c κs =
     let b = c .before .before .before in
-    let r = b .pre .ready in
-    (r .accepted, (r .counted, omega (arith, r .timed, accepted-in (now (b .args .words)) (r .accepted) .head .most)))
+    let r = b .pre .list in
+    (r .accepted, (r .pairsAre, omega (arith, r .registersAre, accepted-in (now (b .args .words)) (r .accepted) .head .most)))
 
 finish-requires : tie.Need-finish-requires
 finish-requires c κs =
     let p = c .before .before .before .before .before .before .before .before .before .before .before .before .before .before .pre in
     let a = c .before .before .before .before .before .before .ascend in
     let u = a .ensures .undecided _ (c .before .before .period2 .given .1) in
-    trial-of (p .ready) (a .kept .1 .1 .0 ∙ p .ready .timed) (u .0) (u .1)
+    trial-of (p .list) (a .kept .1 .1 .0 ∙ p .list .registersAre) (u .0) (u .1)
 
 returns : tie.Need-returns
 returns c = c .before .before .before .before .before .ascend .ensures .settled _ (c .before .period .given .1)

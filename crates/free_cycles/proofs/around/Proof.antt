@@ -3,6 +3,7 @@ use Prim.Native.Nat.{_-_}
 use native.Mathlib.Omega.{arith}
 use borrow.Author.Tests.{ltb-true}
 use Rattle.free_laws.proofs.Cycle.{adds-closed}
+use Rattle.list_format.proofs.ListLaws.{some-registers}
 use Rattle.free_cycles.specs.Tracing.{Traced}
 use Rattle.free_cycles.proofs.TrailLaws.{trail-start}
 use borrow.Author.Needs.{needs}
@@ -18,7 +19,7 @@ abbrev μ-loop : tie.MeasureT-loop
 back-requires : tie.Need-back-requires Inv-loop μ-loop
 back-requires c κs =
     let p = c .before .before .pre in
-    (p .0, (trail-start (p .1 .1) (c .standing .ensures), search needs))
+    (p .0, (trail-start (p .1) (c .standing .ensures), omega (arith, c .standing .ensures, some-registers _ (p .0))))
 
 loop-holds : tie.Need-loop-holds Inv-loop μ-loop
 loop-holds c = c .back .ensures .walked

@@ -11,7 +11,7 @@ returns c =
     too-small (now (b .args .words)) (now (b .args .answer)) (b .pre) (c .if1 .taken)
 
 returns-2 : tie.Need-returns-2
-returns-2 c = settled (record { counted = c .before .before .before .before .before .before .before .before .pre; room = c .before .before .before .before .before .if1 .left }) (c .before .before .before .before .common .ensures) (c .before .before .fill .ensures)
+returns-2 c = settled (record { list = c .before .before .before .before .before .before .before .before .pre; room = c .before .before .before .before .before .if1 .left }) (c .before .before .before .before .common .ensures) (c .before .before .fill .ensures)
 
 pub settle-spec : {M : Type 1} → statement M
 settle-spec = tie.close (tie.spec returns (λ c κs. search needs) (λ c κs. search needs) (λ c. search needs) returns-2)

@@ -2,7 +2,6 @@
 use mathlib.Core.Path.{sym, _∙_}
 use native.Mathlib.Omega.{arith}
 use Rattle.free_laws.proofs.Bound.{bound-low}
-use Rattle.free_trials.proofs.TrialLaws.{trial-walks}
 use borrow.Author.Needs.{needs}
 use Rattle.free_trials.proofs.judge.Statement.{statement}
 use Rattle.free_trials.proofs.judge.Tie as tie
@@ -10,7 +9,7 @@ use Rattle.free_trials.proofs.judge.Tie as tie
 cycle-requires : tie.Need-cycle-requires
 cycle-requires c κs =
     let p = c .before .before .before .pre in
-    (trial-walks p, (search needs, omega (arith, p .ready .timed)))
+    (p .list, omega (arith, p .list .registersAre))
 
 returns : tie.Need-returns
 returns c = record { bound = c .before .cycle .ensures; shows = λ e. absurd (omega arith) }

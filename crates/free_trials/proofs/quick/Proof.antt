@@ -29,7 +29,7 @@ judge-requires c κs =
 same-length : tie.Need-same-length Inv-loop μ-loop
 same-length c =
     let l = c .before .before .before .before .before .before .before .before .before .before in
-    under-turn (l .loop .inv) (c .before .before .before .before .before .before .hinted .ensures) .size ∙ sym (l .before .before .before .before .before .before .before .before .pre .ready .timed)
+    under-turn (l .loop .inv) (c .before .before .before .before .before .before .hinted .ensures) .size ∙ sym (l .before .before .before .before .before .before .before .before .pre .list .registersAre)
 
 returns : tie.Need-returns Inv-loop μ-loop
 returns c =
@@ -43,7 +43,7 @@ loop-again : tie.Need-loop-again Inv-loop μ-loop
 loop-again c = under-turn (c .before .before .before .before .before .before .before .before .before .before .loop .inv) (c .before .before .before .before .before .before .hinted .ensures)
 
 same-length-2 : tie.Need-same-length-2 Inv-loop μ-loop
-same-length-2 c = c .before .loop .inv .size ∙ sym (c .before .before .before .before .before .before .before .before .before .pre .ready .timed)
+same-length-2 c = c .before .loop .inv .size ∙ sym (c .before .before .before .before .before .before .before .before .before .pre .list .registersAre)
 
 returns-2 : tie.Need-returns-2 Inv-loop μ-loop
 returns-2 c = record { tried = λ h. absurd (omega (arith, c .before .before .before .before .before .before .before .before .before .pre .pos)) }

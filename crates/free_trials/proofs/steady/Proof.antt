@@ -28,7 +28,7 @@ judge-requires c κs =
 same-length : tie.Need-same-length Inv-loop μ-loop
 same-length c =
     let p = c .before .before .before .before .before .before .before .before .before .before .before .before .before .before .before .before .before .pre in
-    trying-turn p (c .before .before .before .before .before .before .before .before .before .before .loop .inv) (c .before .before .before .before .before .before .round .ensures) .rounds .size ∙ sym (p .ready .timed)
+    trying-turn p (c .before .before .before .before .before .before .before .before .before .before .loop .inv) (c .before .before .before .before .before .before .round .ensures) .rounds .size ∙ sym (p .list .registersAre)
 
 returns : tie.Need-returns Inv-loop μ-loop
 returns c =
@@ -42,10 +42,10 @@ loop-again : tie.Need-loop-again Inv-loop μ-loop
 loop-again c = trying-turn (c .before .before .before .before .before .before .before .before .before .before .before .before .before .before .before .before .before .pre) (c .before .before .before .before .before .before .before .before .before .before .loop .inv) (c .before .before .before .before .before .before .round .ensures)
 
 passes-requires : tie.Need-passes-requires Inv-loop μ-loop
-passes-requires c κs = under-judges (c .before .before .before .before .before .before .before .before .before .pre) (trying-under (c .before .before .loop .inv)) .ready
+passes-requires c κs = under-judges (c .before .before .before .before .before .before .before .before .before .pre) (trying-under (c .before .before .loop .inv)) .list
 
 same-length-2 : tie.Need-same-length-2 Inv-loop μ-loop
-same-length-2 c = c .before .before .before .before .loop .inv .rounds .size ∙ sym (c .before .before .before .before .before .before .before .before .before .before .before .pre .ready .timed)
+same-length-2 c = c .before .before .before .before .loop .inv .rounds .size ∙ sym (c .before .before .before .before .before .before .before .before .before .before .before .pre .list .registersAre)
 
 returns-2 : tie.Need-returns-2 Inv-loop μ-loop
 returns-2 c = trying-passed (c .before .before .before .before .before .before .before .before .before .before .before .pre) (c .before .before .before .before .loop .inv) (c .before .before .before .loop-test .left) (sym (c .before .passes .ensures) ∙ c .if2 .taken)
@@ -54,7 +54,7 @@ add-result : tie.Need-add-result Inv-loop μ-loop
 add-result c = omega (arith, trial-limit (c .before .before .before .before .before .before .before .before .before .before .before .pre))
 
 same-length-3 : tie.Need-same-length-3 Inv-loop μ-loop
-same-length-3 c = c .before .before .before .before .loop .inv .rounds .size ∙ sym (c .before .before .before .before .before .before .before .before .before .before .before .pre .ready .timed)
+same-length-3 c = c .before .before .before .before .loop .inv .rounds .size ∙ sym (c .before .before .before .before .before .before .before .before .before .before .before .pre .list .registersAre)
 
 returns-3 : tie.Need-returns-3 Inv-loop μ-loop
 returns-3 c = trying-failed (c .before .before .before .before .before .before .before .before .before .before .before .pre) (c .before .before .before .before .loop .inv) (c .before .before .before .loop-test .left) (sym (c .before .passes .ensures) ∙ c .if2 .left)

@@ -6,9 +6,7 @@ use Rattle.planner.proofs.call_fault.Tie as tie
 
 returns : tie.Need-returns
 unfolding orCheck faultAfter
-returns c = rw (c .or2 .ensures, c .before .or .ensures)
+returns c = rw (c .or2 .ensures, c .before .or .ensures, c .before .before .scratch-places .ensures)
 
 pub call-fault-spec : {M : Type 1} → statement M
-call-fault-spec =
-    tie.close
-    (tie.spec (λ c. search needs) (λ c κs. search needs) (λ c. search needs) (λ c. search needs) (λ c. search needs) (λ c κs. search needs) returns)
+call-fault-spec = tie.close (tie.spec (λ c κs. search needs) (λ c. search needs) (λ c κs. search needs) (λ c κs. search needs) returns)

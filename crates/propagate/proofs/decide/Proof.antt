@@ -10,7 +10,7 @@ returns c =
     let w = c .before .before .before .before .before .before in
     let b = w .before .before .before .before in
     let a = b .args in
-    decided (a .period) (a .offset) (now (a .words)) (a .n) (now (a .scratch)) _ (b .pre .0) (w .prepare .ensures) (c .before .before .propagate .ensures)
+    decided (a .period) (a .offset) (now (a .words)) (a .n) (now (a .scratch)) _ (b .pre) (w .prepare .ensures) (c .before .before .propagate .ensures)
 
 pub decide-spec : {M : Type 1} → statement M
 decide-spec = tie.close (tie.spec (λ c κs. search needs) (λ c κs. search needs) (λ c. search needs) returns)

@@ -10,8 +10,8 @@ returns c =
     let w = c .before .before .before .before .before .before in
     let b = w .before .before .before .before in
     let a = b .args in
-    prepared (a .period) (a .offset) (now (a .words)) (a .n) (now (a .scratch)) (b .pre .0) (w .clear .ensures)
-    (rw (b .pre .1) at (c .before .before .record-broken .ensures))
+    prepared (a .period) (a .offset) (now (a .words)) (a .n) (now (a .scratch)) (b .pre) (w .clear .ensures)
+    (rw (b .pre .list .pairsAre) at (c .before .before .record-broken .ensures))
 
 pub prepare-spec : {M : Type 1} → statement M
 prepare-spec =

@@ -23,7 +23,7 @@ loop-holds c =
 sweep-requires : tie.Need-sweep-requires Inv-loop μ-loop
 sweep-requires c κs =
     let b = c .before .before .before .before in
-    (lent-kept (b .pre .0) (c .before .loop .inv .size), b .pre .1)
+    lent-kept (b .pre) (c .before .loop .inv .size)
 
 returns : tie.Need-returns Inv-loop μ-loop
 returns c =

@@ -7,6 +7,7 @@ use lib.ListN.{length}
 use Rattle.buffers.proofs.FillLaws.{Filling, filled-none, filling-start, filling-size, filling-end, filling-turn, set-put}
 use Rattle.list_format.specs.Lists.{pairAt}
 use Rattle.split_laws.specs.Table.{flagAt}
+use Rattle.list_format.proofs.ListLaws.{pair-in}
 use borrow.Author.Needs.{needs}
 use Rattle.propagate.proofs.record_broken.Statement.{statement}
 use Rattle.propagate.proofs.record_broken.Tie as tie
@@ -22,7 +23,7 @@ loop-holds : tie.Need-loop-holds Inv-loop μ-loop
 loop-holds c = (refl, filling-start (filled-none _))
 
 pair-at-requires : tie.Need-pair-at-requires Inv-loop μ-loop
-pair-at-requires c κs = record { accepted = c .before .before .before .before .pre .0; below = omega arith }
+pair-at-requires c κs = pair-in _ (c .before .before .before .before .pre .0) (omega arith)
 
 slice-write-flags : tie.Need-slice-write-flags Inv-loop μ-loop
 slice-write-flags c = omega (arith, filling-size (c .before .before .before .loop .inv .1))

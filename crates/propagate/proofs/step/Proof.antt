@@ -19,14 +19,14 @@ settle-requires c κs =
     let b = c .before .before .before .before .before .before in
     let p = c .before .before .before .pair-at .ensures in
     let e : length (take (b .args .n) (now (b .args .scratch))) ≡ b .args .n = length-take-le (b .args .n) (now (b .args .scratch)) (omega (arith, b .pre .0 .room)) in
-    record { launch = omega (arith, p .launch, b .pre .0 .registersAre); capture = omega (arith, p .capture, b .pre .0 .registersAre) }
+    record { launch = omega (arith, p .values .launch, b .pre .0 .list .registersAre); capture = omega (arith, p .values .capture, b .pre .0 .list .registersAre) }
 
 returns : tie.Need-returns
 returns c =
     let f = c .before .before .before .before in
     let b = f .before .before .before .before .before in
     let a = b .args in
-    pair-pass (now (a .words)) (a .n) (now (a .scratch)) (a .k) (omega (arith, b .pre .0 .room)) (b .pre .1)
+    pair-pass (now (a .words)) (a .n) (now (a .scratch)) (a .k) (omega (arith, b .pre .0 .room)) (omega (arith, b .pre .0 .list .pairsAre))
     (f .before .before .pair-at .ensures .same)
     (f .flags-at .ensures)
     refl

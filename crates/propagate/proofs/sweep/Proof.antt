@@ -26,7 +26,7 @@ step-requires : tie.Need-step-requires Inv-loop μ-loop
 step-requires c κs =
     let l = c .before .before .before in
     let b = l .before .before .before in
-    (lent-kept (b .pre .0) (l .loop .inv .1 .size), omega (arith, c .before .place .ensures .1, b .pre .1))
+    (lent-kept (b .pre) (l .loop .inv .1 .size), omega (arith, c .before .place .ensures .1))
 
 loop-again : tie.Need-loop-again Inv-loop μ-loop
 loop-again c =
@@ -34,7 +34,7 @@ loop-again c =
     let l = w .before .before .before .before in
     let b = l .before .before .before in
     let a = b .args in
-    let at = rw (b .pre .1) at (w .before .before .place .ensures .0) in
+    let at = rw (b .pre .list .pairsAre) at (w .before .before .place .ensures .0) in
     (omega arith, sweep-turn (now (a .words)) (a .n) (a .down) (l .loop .i) at (c .join .ensures) (l .loop .inv .1) (w .step .ensures))
 
 returns : tie.Need-returns Inv-loop μ-loop
@@ -42,7 +42,7 @@ returns c =
     let l = c .before .loop in
     let b = c .before .before .before .before in
     let a = b .args in
-    let e : l .i ≡ pairCount (now (a .words)) = omega (arith, b .pre .1) in
+    let e : l .i ≡ pairCount (now (a .words)) = omega (arith, b .pre .list .pairsAre) in
     sweep-end (now (a .words)) (a .n) (a .down) (rw e at (l .inv .1))
 
 pub sweep-spec : {M : Type 1} → statement M

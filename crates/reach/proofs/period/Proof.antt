@@ -18,10 +18,10 @@ loop-holds c = asked-start
 loop-again : tie.Need-loop-again Inv-loop μ-loop
 loop-again c =
     let l = c .before .before .before .before in
-    asked-turn (l .loop .inv) (omega (arith, l .before .before .before .pre .counted)) (c .before .before .pair-at .ensures) (c .before .asked .ensures) (c .larger .ensures)
+    asked-turn (l .loop .inv) (omega (arith, l .before .before .before .pre .pairsAre)) (c .before .before .pair-at .ensures) (c .before .asked .ensures) (c .larger .ensures)
 
 returns : tie.Need-returns Inv-loop μ-loop
-returns c = asked-end (c .before .loop .inv) (omega (arith, c .before .before .before .before .pre .counted))
+returns c = asked-end (c .before .loop .inv) (omega (arith, c .before .before .before .before .pre .pairsAre))
 
 pub period-spec : {M : Type 1} → statement M
 period-spec =

@@ -22,7 +22,7 @@ sweep-requires c κs = c .before .loop .inv
 same-length : tie.Need-same-length Inv-loop μ-loop
 same-length c =
     let w = c .before .before .before in
-    w .sweep .ensures .size ∙ w .before .before .loop .inv .ready .timed ∙ sym (w .before .before .before .before .before .pre .ready .timed)
+    w .sweep .ensures .size ∙ w .before .before .loop .inv .list .registersAre ∙ sym (w .before .before .before .before .before .pre .list .registersAre)
 
 returns : tie.Need-returns Inv-loop μ-loop
 returns c =

@@ -1,4 +1,5 @@
 -- `two_period`: from equal reaches until none rises any more.
+use denote.Ref.{now}
 use Rattle.reach.proofs.SweepLaws.{reaching-start, reached}
 use borrow.Author.Needs.{needs}
 use Rattle.reach.proofs.two_period.Statement.{statement}
@@ -8,7 +9,7 @@ settle-requires : tie.Need-settle-requires
 settle-requires c κs =
     let w = c .before .before .before in
     let b = w .before .before .before .before in
-    reaching-start (b .args .floor) (b .pre .0) (b .pre .1) (b .pre .2) (w .level .ensures)
+    reaching-start (b .args .floor) (now (b .args .reach)) (b .pre .0) (b .pre .1) (b .pre .2) (w .level .ensures)
 
 returns : tie.Need-returns
 returns c = reached (c .before .before .before .before .settle .ensures) (c .period .ensures)

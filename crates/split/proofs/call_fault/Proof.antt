@@ -8,10 +8,10 @@ returns : tie.Need-returns
 unfolding orCheck faultAfter
 returns c =
     let d = c .before .before .before in
-    rw (c .or5 .ensures, c .before .or4 .ensures, c .before .before .or3 .ensures, d .or2 .ensures, d .before .or .ensures)
+    rw (c .or5 .ensures, c .before .or4 .ensures, c .before .before .or3 .ensures, d .or2 .ensures, d .before .or .ensures, d .before .before .scratch-places .ensures)
 
 pub call-fault-spec : {M : Type 1} → statement M
 call-fault-spec =
     tie.close
-    (tie.spec (λ c κs. search needs) (λ c κs. search needs) (λ c κs. search needs) (λ c κs. search needs)
-    (λ c. search needs) (λ c. search needs) (λ c. search needs) (λ c κs. search needs) returns)
+    (tie.spec (λ c κs. search needs) (λ c κs. search needs) (λ c κs. search needs) (λ c κs. search needs) (λ c κs. search needs)
+    (λ c κs. search needs) returns)
