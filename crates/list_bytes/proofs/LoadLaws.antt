@@ -1,4 +1,5 @@
--- The words in the first places of a buffer.
+-- The words of a list's bytes: none of too many bytes or of half words, and every job refuses those; else four bytes a word,
+-- in the first places of a buffer.
 use Prim.Native.Nat.{ℕ, _/_, _%_, _^_, _≤_, _<_}
 use mathlib.Core.Bool.{Bool, true, false, cond}
 use mathlib.Core.List.{List, [], _++_}
