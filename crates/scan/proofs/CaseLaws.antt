@@ -7,7 +7,7 @@ use lib.ListN.{set}
 use borrow.Author.Tests.{not-true, not-false, lt-ltb, le-ltb, eq-eqb, ne-eqb}
 use Rattle.text_pieces.specs.Pieces.{zeroByte, nineByte, space, newline}
 use Rattle.scan.specs.declared.State.{State}
-use Rattle.scan.specs.Scan.{maxNumbers, maxNumber, failed, withDigit, numberEnded, lineFault, nextLine, lineEnded, step, someNumber, finished, keptIn}
+use Rattle.scan.specs.Scan.{maxNumbers, maxValue, failed, withDigit, numberEnded, lineFault, nextLine, lineEnded, step, someNumber, finished, keptIn}
 
 -- ---- the end of a line of a list
 
@@ -41,14 +41,14 @@ module _ (first count : ℕ) where
 module _ (s : State) where
   -- ---- a number
 
-  pub digit-large : (d : ℕ) → maxNumber < 10 * s .value + d → failed s 2 ≡ withDigit s d
+  pub digit-large : (d : ℕ) → maxValue < 10 * s .value + d → failed s 2 ≡ withDigit s d
   unfolding withDigit
-  digit-large d h = rw (lt-ltb maxNumber (10 * s .value + d) h)
+  digit-large d h = rw (lt-ltb maxValue (10 * s .value + d) h)
 
-  pub digit-more : (d : ℕ) → 10 * s .value + d ≤ maxNumber
+  pub digit-more : (d : ℕ) → 10 * s .value + d ≤ maxValue
       → record { lined = s .lined; line = s .line; first = s .first; count = s .count; inside = true; value = 10 * s .value + d; fault = 0 } ≡ withDigit s d
   unfolding withDigit
-  digit-more d h = rw (le-ltb maxNumber (10 * s .value + d) h)
+  digit-more d h = rw (le-ltb maxValue (10 * s .value + d) h)
 
   pub ended-outside : not (s .inside) ≡ true → s ≡ numberEnded s
   unfolding numberEnded

@@ -13,7 +13,7 @@ use Rattle.buffers.specs.Run.{run}
 use Rattle.text_pieces.specs.Pieces.{zeroByte, digit, decimal, number, space, newline}
 use Rattle.text_pieces.proofs.DecimalLaws.{decimal-one, decimal-more}
 use Rattle.scan.specs.declared.State.{State}
-use Rattle.scan.specs.Scan.{maxNumbers, maxNumber, start, withDigit, numberEnded, lineFault, lineEnded, step, finished, someNumber, kept, after, ended}
+use Rattle.scan.specs.Scan.{maxNumbers, maxValue, start, withDigit, numberEnded, lineFault, lineEnded, step, finished, someNumber, kept, after, ended}
 use Rattle.scan.proofs.CaseLaws.{digit-more, ended-next, line-next, step-space, step-newline, step-digit}
 use Rattle.scan.proofs.ScanLaws.{after-append, ended-append}
 
@@ -56,7 +56,7 @@ kept-next s t h = rw (lt-ltb (s .count) (t .count) h)
 
 module _ (lined : Bool) (line first count : ℕ) where
   -- a digit, as the first one or as a later one
-  one-digit : (inside : Bool) (v d w : ℕ) → d < 10 → 10 * v + d ≡ w → w ≤ maxNumber
+  one-digit : (inside : Bool) (v d w : ℕ) → d < 10 → 10 * v + d ≡ w → w ≤ maxValue
       → Reads (record { lined = lined; line = line; first = first; count = count; inside = inside; value = v; fault = 0 }) (digit d ∷ []) []
       (within lined line first count w)
   one-digit inside v d w h e l =
@@ -68,12 +68,12 @@ module _ (lined : Bool) (line first count : ℕ) where
       reads-one (sym (there ∙ goes)) (kept-same s (within lined line first count w) refl)
 
   -- a number in decimal
-  digits-in : (k n : ℕ) → n < k → n ≤ maxNumber → Reads (at lined line first count) (decimal n) [] (within lined line first count n)
+  digits-in : (k n : ℕ) → n < k → n ≤ maxValue → Reads (at lined line first count) (decimal n) [] (within lined line first count n)
   digits-in zero n h l = absurd (omega arith)
   digits-in (suc k) n h l = go (ltb n 10) refl (digits-in k (n / 10))
     where
       go : (b : Bool) → ltb n 10 ≡ b
-          → (n / 10 < k → n / 10 ≤ maxNumber → Reads (at lined line first count) (decimal (n / 10)) [] (within lined line first count (n / 10)))
+          → (n / 10 < k → n / 10 ≤ maxValue → Reads (at lined line first count) (decimal (n / 10)) [] (within lined line first count (n / 10)))
           → Reads (at lined line first count) (decimal n) [] (within lined line first count n)
       go true e front =
           let one = ltb-true n 10 e in
@@ -83,10 +83,10 @@ module _ (lined : Bool) (line first count : ℕ) where
           rw (decimal-more n more)
           (reads-then (front (omega arith) (omega arith)) (one-digit true (n / 10) (n % 10) n (omega arith) (omega arith) l))
 
-  pub digits : (n : ℕ) → n ≤ maxNumber → Reads (at lined line first count) (decimal n) [] (within lined line first count n)
+  pub digits : (n : ℕ) → n ≤ maxValue → Reads (at lined line first count) (decimal n) [] (within lined line first count n)
   digits n l = digits-in (suc n) n (omega arith) l
 
-  module _ (n : ℕ) (l : n ≤ maxNumber) (room : count < maxNumbers) where
+  module _ (n : ℕ) (l : n ≤ maxValue) (room : count < maxNumbers) where
     ends : at lined line first (count + 1) ≡ numberEnded (within lined line first count n)
     ends = ended-next (within lined line first count n) refl room
 

@@ -7,7 +7,7 @@ use lib.Dec.{ltb, eqb}
 use borrow.Author.Tests.{ltb-true}
 use Rattle.text_pieces.specs.Pieces.{zeroByte, nineByte, space, newline}
 use Rattle.scan.specs.declared.State.{State}
-use Rattle.scan.specs.Scan.{maxNumbers, maxNumber, failed, withDigit, numberEnded, lineFault, lineEnded, step, someNumber, finished, StateIn}
+use Rattle.scan.specs.Scan.{maxNumbers, maxValue, failed, withDigit, numberEnded, lineFault, lineEnded, step, someNumber, finished, StateIn}
 
 -- at most l lines and k numbers further
 pub record Moves (l k : ℕ) (s t : State) : Type 0 where
@@ -53,7 +53,7 @@ module _ (s : State) (f : Fair s) where
   digit-moves : (d : ℕ) → Moves 0 0 s (withDigit s d)
   unfolding withDigit
   digit-moves d =
-      either (ltb maxNumber (10 * s .value + d)) (failed-moves 2)
+      either (ltb maxValue (10 * s .value + d)) (failed-moves 2)
       (record { line = omega arith; low = omega arith; high = omega arith; first = f .first; most = f .most })
 
   pub ended-moves : Moves 0 1 s (numberEnded s)

@@ -10,7 +10,7 @@ use Rattle.text_pieces.specs.Pieces.{zeroByte, nineByte, space, newline}
 use Rattle.scan.specs.declared.State.{State}
 use Rattle.scan.specs.declared.Scanned.{Scanned}
 use Rattle.scan.specs.declared.Scanned.the-variants.{Numbers, Faulty}
-use Rattle.scan.specs.Scan.{maxNumbers, maxNumber, textBytes, start, failed, withDigit, numberEnded, lineFault, lineEnded, step}
+use Rattle.scan.specs.Scan.{maxNumbers, maxValue, textBytes, start, failed, withDigit, numberEnded, lineFault, lineEnded, step}
 use Rattle.scan.specs.Scan.{someNumber, finished, after, last, scanned}
 
 -- neither 3 nor 4
@@ -39,7 +39,7 @@ module _ (s : State) (u : Unlined s) where
   digit-unlined : (d : ℕ) → Unlined (withDigit s d)
   unfolding withDigit
   digit-unlined d =
-      either (ltb maxNumber (10 * s .value + d)) (failed-unlined 2 (no-line 2 refl refl))
+      either (ltb maxValue (10 * s .value + d)) (failed-unlined 2 (no-line 2 refl refl))
       (record { lined = u .lined; fault = none })
 
   ended-unlined : Unlined (numberEnded s)

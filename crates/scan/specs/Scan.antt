@@ -22,8 +22,8 @@ abbrev pub textBytes : ℕ
 textBytes = 131_072
 
 -- the largest number that a text may hold: 32 bits
-abbrev pub maxNumber : ℕ
-maxNumber = 4_294_967_295
+abbrev pub maxValue : ℕ
+maxValue = 4_294_967_295
 
 -- ---- one byte
 
@@ -38,7 +38,7 @@ failed s fault =
 -- a digit more. 2: a number of more than 32 bits
 unfoldable pub withDigit : State → ℕ → State
 withDigit s d =
-    cond (ltb maxNumber (10 * s .value + d)) (failed s 2)
+    cond (ltb maxValue (10 * s .value + d)) (failed s 2)
     (record { lined = s .lined; line = s .line; first = s .first; count = s .count; inside = true; value = 10 * s .value + d; fault = 0 })
 
 -- the end of a number, if one has begun. 5: too many numbers

@@ -11,7 +11,7 @@ use timing::MAX_PAIRS;
 pub const MAX_NUMBERS: usize = 4 * MAX_PAIRS + 1;
 
 // The largest of them: 32 bits.
-const MAX_NUMBER: u64 = 4_294_967_295;
+const MAX_VALUE: u64 = 4_294_967_295;
 
 // The longest text.
 pub const TEXT_BYTES: usize = 131_072;
@@ -68,7 +68,7 @@ impl State {
         ensures { λ r. ⌜ r ≡ withDigit self d ⌝ }
     {
         let value = 10 * (self.value as u64) + d as u64;
-        if value > MAX_NUMBER {
+        if value > MAX_VALUE {
             return self.fail(2);
         }
         let mut next = self;

@@ -7,10 +7,10 @@ use native.Mathlib.Omega.{arith}
 use lib.ListN.{length, getD, take, drop}
 use Rattle.buffers.proofs.RunLaws.{run-length, run-at, run-is, take-stretch}
 use Rattle.words.specs.Word.{wordBits}
-use Rattle.words.specs.Bytes.{byteBits, byteOf, bytesOf, fromBytes, wordAt, toWords, toBytes}
+use Rattle.words.specs.Bytes.{byteBits, byteAt, bytesOf, fromBytes, wordAt, toWords, toBytes}
 
 -- one word and its four bytes
-word-of-bytes : (w : ℕ) → w < 2 ^ wordBits → fromBytes (byteOf 0 w) (byteOf 1 w) (byteOf 2 w) (byteOf 3 w) ≡ w
+word-of-bytes : (w : ℕ) → w < 2 ^ wordBits → fromBytes (byteAt 0 w) (byteAt 1 w) (byteAt 2 w) (byteAt 3 w) ≡ w
 word-of-bytes w h =
     let a : ℕ = w / 2 ^ byteBits in
     let b : ℕ = a / 2 ^ byteBits in
@@ -18,22 +18,24 @@ word-of-bytes w h =
     let b-is : w / 2 ^ (2 * byteBits) ≡ b = sym (div-div-eq-div-mul w (2 ^ byteBits) (2 ^ byteBits)) in
     let c-is : w / 2 ^ (3 * byteBits) ≡ c = sym (div-div-eq-div-mul w (2 ^ (2 * byteBits)) (2 ^ byteBits)) ∙ ap (λ x. x / 2 ^ byteBits) b-is in
     rw (div-one, b-is, c-is)
-    (sum w a b c (w % 2 ^ byteBits) (a % 2 ^ byteBits) (b % 2 ^ byteBits) (c % 2 ^ byteBits) (div-add-mod' w (2 ^ byteBits)) (div-add-mod' a (2 ^ byteBits)) (div-add-mod' b (2 ^ byteBits)) (omega arith))
+    (sum w a b c (w % 2 ^ byteBits) (a % 2 ^ byteBits) (b % 2 ^ byteBits) (c % 2 ^ byteBits)
+    (div-add-mod' w (2 ^ byteBits)) (div-add-mod' a (2 ^ byteBits)) (div-add-mod' b (2 ^ byteBits)) (omega arith))
   where
-    sum : (w a b c r s t u : ℕ) → a * 2 ^ byteBits + r ≡ w → b * 2 ^ byteBits + s ≡ a → c * 2 ^ byteBits + t ≡ b → u ≡ c → r + s * 2 ^ byteBits + t * 2 ^ (2 * byteBits) + u * 2 ^ (3 * byteBits) ≡ w
+    sum : (w a b c r s t u : ℕ) → a * 2 ^ byteBits + r ≡ w → b * 2 ^ byteBits + s ≡ a → c * 2 ^ byteBits + t ≡ b → u ≡ c
+        → r + s * 2 ^ byteBits + t * 2 ^ (2 * byteBits) + u * 2 ^ (3 * byteBits) ≡ w
     sum w a b c r s t u d e f g = omega arith
 
 module _ (a b c d : ℕ) (ha : a < 2 ^ byteBits) (hb : b < 2 ^ byteBits) (hc : c < 2 ^ byteBits) (hd : d < 2 ^ byteBits) where
-  byte-0 : byteOf 0 (fromBytes a b c d) ≡ a
+  byte-0 : byteAt 0 (fromBytes a b c d) ≡ a
   byte-0 = omega arith
 
-  byte-1 : byteOf 1 (fromBytes a b c d) ≡ b
+  byte-1 : byteAt 1 (fromBytes a b c d) ≡ b
   byte-1 = omega arith
 
-  byte-2 : byteOf 2 (fromBytes a b c d) ≡ c
+  byte-2 : byteAt 2 (fromBytes a b c d) ≡ c
   byte-2 = omega arith
 
-  byte-3 : byteOf 3 (fromBytes a b c d) ≡ d
+  byte-3 : byteAt 3 (fromBytes a b c d) ≡ d
   byte-3 = omega arith
 
   bytes-of-word : bytesOf (fromBytes a b c d) ≡ a ∷ b ∷ c ∷ d ∷ []

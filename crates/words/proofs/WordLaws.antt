@@ -6,7 +6,7 @@ use native.Mathlib.Nat.{le-of-suc-le-suc, not-suc-le-zero, mod-add-mod}
 use native.Mathlib.Numerals.{add-one}
 use native.Mathlib.Omega.{arith}
 use lib.ListN.{length, take, getD}
-use Rattle.words.specs.Word.{payloadBits, countBits, registerBits, wordBits, headKind, pairKind, kindOf, payloadOf, headPairs, headRegisters}
+use Rattle.words.specs.Word.{payloadBits, countBits, registerBits, wordBits, kindHead, kindPair, kindOf, payloadOf, headPairs, headRegisters}
 use Rattle.words.specs.Word.{headSpare, captureOf, launchOf, pairSpare, wordOf, headWord, pairWord, total, wrappedSum}
 
 -- ---- any kind of word
@@ -23,7 +23,7 @@ word-of-parts w = omega arith
 -- ---- the head and a pair word
 
 pub record HeadIs (n m w : ℕ) : Type 0 where
-  pub kind : kindOf w ≡ headKind
+  pub kind : kindOf w ≡ kindHead
   pub spare : headSpare w ≡ 0
   pub registers : headRegisters w ≡ n
   pub pairs : headPairs w ≡ m
@@ -31,11 +31,11 @@ pub record HeadIs (n m w : ℕ) : Type 0 where
 pub head-of-word : (n m : ℕ) → n < 2 ^ registerBits → m < 2 ^ countBits → HeadIs n m (headWord n m)
 head-of-word n m hn hm = omega arith
 
-pub word-of-head : (w : ℕ) → kindOf w ≡ headKind → headSpare w ≡ 0 → headWord (headRegisters w) (headPairs w) ≡ w
+pub word-of-head : (w : ℕ) → kindOf w ≡ kindHead → headSpare w ≡ 0 → headWord (headRegisters w) (headPairs w) ≡ w
 word-of-head w k s = omega arith
 
 pub record PairWordIs (launch capture w : ℕ) : Type 0 where
-  pub kind : kindOf w ≡ pairKind
+  pub kind : kindOf w ≡ kindPair
   pub spare : pairSpare w ≡ 0
   pub launched : launchOf w ≡ launch
   pub captured : captureOf w ≡ capture
@@ -43,7 +43,7 @@ pub record PairWordIs (launch capture w : ℕ) : Type 0 where
 pub pair-of-word : (a b : ℕ) → a < 2 ^ registerBits → b < 2 ^ registerBits → PairWordIs a b (pairWord a b)
 pair-of-word a b ha hb = omega arith
 
-pub word-of-pair : (w : ℕ) → kindOf w ≡ pairKind → pairSpare w ≡ 0 → pairWord (launchOf w) (captureOf w) ≡ w
+pub word-of-pair : (w : ℕ) → kindOf w ≡ kindPair → pairSpare w ≡ 0 → pairWord (launchOf w) (captureOf w) ≡ w
 word-of-pair w k s = omega arith
 
 -- ---- the sum

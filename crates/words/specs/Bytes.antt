@@ -10,11 +10,11 @@ abbrev pub byteBits : ℕ
 byteBits = 8
 
 -- byte k of a word
-abbrev pub byteOf : ℕ → ℕ → ℕ
-byteOf k w = field (k * byteBits) byteBits w
+abbrev pub byteAt : ℕ → ℕ → ℕ
+byteAt k w = field (k * byteBits) byteBits w
 
 abbrev pub bytesOf : ℕ → List ℕ
-bytesOf w = byteOf 0 w ∷ byteOf 1 w ∷ byteOf 2 w ∷ byteOf 3 w ∷ []
+bytesOf w = byteAt 0 w ∷ byteAt 1 w ∷ byteAt 2 w ∷ byteAt 3 w ∷ []
 
 abbrev pub fromBytes : ℕ → ℕ → ℕ → ℕ → ℕ
 fromBytes a b c d = a + b * 2 ^ byteBits + c * 2 ^ (2 * byteBits) + d * 2 ^ (3 * byteBits)

@@ -21,20 +21,20 @@ registerBits = 10
 
 -- ---- the kinds
 
-abbrev pub headKind : ℕ
-headKind = 1
+abbrev pub kindHead : ℕ
+kindHead = 1
 
-abbrev pub pairKind : ℕ
-pairKind = 2
+abbrev pub kindPair : ℕ
+kindPair = 2
 
-abbrev pub leastKind : ℕ
-leastKind = 3
+abbrev pub kindLeast : ℕ
+kindLeast = 3
 
-abbrev pub greatestKind : ℕ
-greatestKind = 4
+abbrev pub kindGreatest : ℕ
+kindGreatest = 4
 
-abbrev pub endKind : ℕ
-endKind = 7
+abbrev pub kindEnd : ℕ
+kindEnd = 7
 
 -- ---- fields
 
@@ -76,19 +76,19 @@ abbrev pub wordOf : ℕ → ℕ → ℕ
 wordOf kind payload = kind * 2 ^ payloadBits + payload
 
 abbrev pub headWord : ℕ → ℕ → ℕ
-headWord n m = wordOf headKind (n * 2 ^ countBits + m)
+headWord n m = wordOf kindHead (n * 2 ^ countBits + m)
 
 abbrev pub pairWord : ℕ → ℕ → ℕ
-pairWord launch capture = wordOf pairKind (launch * 2 ^ registerBits + capture)
+pairWord launch capture = wordOf kindPair (launch * 2 ^ registerBits + capture)
 
 abbrev pub leastWord : ℕ → ℕ
-leastWord = wordOf leastKind
+leastWord = wordOf kindLeast
 
 abbrev pub greatestWord : ℕ → ℕ
-greatestWord = wordOf greatestKind
+greatestWord = wordOf kindGreatest
 
 abbrev pub endWord : ℕ → ℕ
-endWord = wordOf endKind
+endWord = wordOf kindEnd
 
 -- ---- the checksum
 

@@ -11,15 +11,15 @@ ghost use Rattle.words.specs.Word.{wordBits, payloadBits, countBits, reg
 ghost use Rattle.words.specs.Word.{captureOf, launchOf, pairSpare, wordOf, headWord, pairWord, wrappedSum, checksum};
 
 // The kinds of words.
-pub const HEAD_KIND: u32 = 1;
+pub const KIND_HEAD: u32 = 1;
 
-pub const PAIR_KIND: u32 = 2;
+pub const KIND_PAIR: u32 = 2;
 
-pub const LEAST_KIND: u32 = 3;
+pub const KIND_LEAST: u32 = 3;
 
-pub const GREATEST_KIND: u32 = 4;
+pub const KIND_GREATEST: u32 = 4;
 
-pub const END_KIND: u32 = 7;
+pub const KIND_END: u32 = 7;
 
 // The kind counts in these: the payload below it has 29 bits.
 const KIND: u32 = 0x2000_0000;
@@ -99,14 +99,14 @@ pub fn head_word(registers: u32, pairs: u32) -> u32
     requires { ⌜ (registers < 2 ^ registerBits) × (pairs < 2 ^ countBits) ⌝ }
     ensures { λ r. ⌜ r ≡ headWord registers pairs ⌝ }
 {
-    word_of(HEAD_KIND, registers * COUNT + pairs)
+    word_of(KIND_HEAD, registers * COUNT + pairs)
 }
 
 pub fn pair_word(launch: u32, capture: u32) -> u32
     requires { ⌜ (launch < 2 ^ registerBits) × (capture < 2 ^ registerBits) ⌝ }
     ensures { λ r. ⌜ r ≡ pairWord launch capture ⌝ }
 {
-    word_of(PAIR_KIND, launch * REGISTER + capture)
+    word_of(KIND_PAIR, launch * REGISTER + capture)
 }
 
 // The sum of the first `count` words, carries out of the word dropped.

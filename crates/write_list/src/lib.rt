@@ -74,8 +74,8 @@ fn put(answer: &mut [u32], at: usize, p: Pair)
     ensures { λ _. ⌜ now (answer .exit) ≡ take at (now (answer .entry)) ++ (threeOf p ++ drop (at + 3) (now (answer .entry))) ⌝ }
 {
     answer[at] = words::pair_word(p.launch, p.capture);
-    answer[at + 1] = words::word_of(words::LEAST_KIND, p.least);
-    answer[at + 2] = words::word_of(words::GREATEST_KIND, p.greatest);
+    answer[at + 1] = words::word_of(words::KIND_LEAST, p.least);
+    answer[at + 2] = words::word_of(words::KIND_GREATEST, p.greatest);
 }
 
 // The words of all m pairs, after the head.
@@ -109,7 +109,7 @@ fn put_end(answer: &mut [u32], at: usize)
     ensures { λ _. ⌜ now (answer .exit) ≡ set (now (answer .entry)) at (endWord (checksum (take at (now (answer .entry))))) ⌝ }
 {
     let sum = words::end_payload(answer, at);
-    answer[at] = words::word_of(words::END_KIND, sum);
+    answer[at] = words::word_of(words::KIND_END, sum);
 }
 
 // The whole list, in the first places of the buffer. The answer is the count of words.
