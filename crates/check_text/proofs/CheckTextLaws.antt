@@ -1,4 +1,5 @@
--- From what checking and scanning promise to the line that is stored.
+-- From what checking and scanning promise to the line that is stored: a fault in the text, a refusal, an admissible schedule,
+-- or the first pair that breaks a rule.
 use Prim.Native.Nat.{ℕ, _≤_, _<_}
 use mathlib.Core.Bool.{Bool, true, false}
 use mathlib.Core.List.{List, [], _∷_, _++_}
@@ -18,7 +19,7 @@ use Rattle.checker.specs.declared.Checking.{Checking}
 use Rattle.checker.specs.declared.Checking.the-variants.{Admissible, Broken, Refused}
 use Rattle.text_pieces.specs.Pieces.{Put, letters, named, space}
 use Rattle.text_pieces.proofs.PutLaws.{put-within}
-use Rattle.refusal_text.specs.PlainWords.{refusalLine, faultLine}
+use Rattle.refusal_text.specs.PlainWords.{lineWidth, refusalLine, faultLine}
 use Rattle.list_bytes.specs.ListBytes.{listOf}
 use Rattle.scan.specs.declared.Scanned.{Scanned}
 use Rattle.scan.specs.declared.Scanned.the-variants.{Numbers, Faulty}
@@ -43,7 +44,7 @@ found-below ws s t {k} {rule} e = go (ltb (firstBroken ws t s) (pairCount ws)) r
         absurd (omega arith)
 
 module _ {ws s : List ℕ} {t : ℕ} {r : Checking} (a : CheckedAs ws t s r) where
-  pub line-refused : {number place next : ℕ} {text text′ : List ℕ} → r ≡ Refused number place → Put 133 (refusalLine number place) text 0 text′ next
+  pub line-refused : {number place next : ℕ} {text text′ : List ℕ} → r ≡ Refused number place → Put lineWidth (refusalLine number place) text 0 text′ next
       → Put linePlaces (checkedLine ws t s) text 0 text′ next
   unfolding checkReply checkedLine
   line-refused e put = rw (told-refusal refusalLine (λ xs ys. foundLine ws xs) (checking ws t s) (rw e at (a .reply))) put
@@ -89,8 +90,8 @@ pair-put rule {ws} {k} {p} {w} {next} {text} {text′} is put h =
 -- ---- the text of the schedule
 
 module _ {ts was now : List ℕ} {r : Scanned} (a : ScanAs false ts was now r) where
-  pub text-faulty : (bs : List ℕ) (t : ℕ) {fault line next : ℕ} {text text′ : List ℕ} → r ≡ Faulty fault line → Put 133 (faultLine fault line) text 0 text′ next
-      → Put linePlaces (checkText bs t ts) text 0 text′ next
+  pub text-faulty : (bs : List ℕ) (t : ℕ) {fault line next : ℕ} {text text′ : List ℕ} → r ≡ Faulty fault line
+      → Put lineWidth (faultLine fault line) text 0 text′ next → Put linePlaces (checkText bs t ts) text 0 text′ next
   unfolding scannedLine
   text-faulty bs t {fault} {line} e put =
       let here : checkText bs t ts ≡ faultLine fault line = rw (← a .answer, e) in

@@ -1,5 +1,5 @@
 -- What is printed for a schedule that is checked against a list: one line.
-use Prim.Native.Nat.{ℕ}
+use Prim.Native.Nat.{ℕ, _+_}
 use mathlib.Core.Bool.{false, cond}
 use mathlib.Core.List.{List, [], _∷_, _++_}
 use lib.Dec.{eqb}
@@ -7,16 +7,28 @@ use lib.ListN.{getD}
 use Rattle.refusals.specs.Reply.{told}
 use Rattle.list_format.specs.Lists.{pairAt}
 use Rattle.checker.specs.Check.{checking}
-use Rattle.text_pieces.specs.Pieces.{letters, named, space, newline}
-use Rattle.refusal_text.specs.PlainWords.{refusalLine, faultLine}
+use Rattle.text_pieces.specs.Pieces.{letters, named, space, newline, numberWidth}
+use Rattle.refusal_text.specs.PlainWords.{lineWidth, refusalLine, faultLine}
 use Rattle.list_bytes.specs.ListBytes.{listOf}
 use Rattle.scan.specs.declared.Scanned.{Scanned}
 use Rattle.scan.specs.declared.Scanned.the-variants.{Numbers, Faulty}
 use Rattle.scan.specs.Scan.{scanned, storedOf}
 
--- places enough for any line
+-- ---- how long a line can be
+
+-- "breaks setup: "
+abbrev pub ruleWidth : ℕ
+ruleWidth = 14
+
+-- "launch " and "capture " with their numbers
+abbrev pub registersWidth : ℕ
+registersWidth = 7 + numberWidth + (8 + numberWidth)
+
+-- places enough for any line: that of a refusal is the longest
 abbrev pub linePlaces : ℕ
-linePlaces = 133
+linePlaces = lineWidth
+
+-- ---- the lines
 
 -- a rule by its number: 0 setup, 1 hold
 unfoldable pub ruleWords : ℕ → List ℕ

@@ -6,7 +6,7 @@ ghost use Rattle.text_pieces.specs.Pieces.{Put};
 ghost use Rattle.list_format.specs.Lists.{PairIn};
 ghost use Rattle.list_bytes.specs.ListBytes.{listOf};
 ghost use Rattle.checker.specs.Check.{ruleNumber};
-ghost use Rattle.check_text.specs.CheckText.{linePlaces, ruleWords, registersWords, brokenLine, checkedLine, checkText};
+ghost use Rattle.check_text.specs.CheckText.{ruleWidth, registersWidth, linePlaces, ruleWords, registersWords, brokenLine, checkedLine, checkText};
 use checker::Checking;
 use checker::Rule;
 use list_bytes::MAX_WORDS;
@@ -15,12 +15,12 @@ use scan::Scanned;
 use text_pieces::put_bytes;
 use text_pieces::put_named;
 
-// Places enough for any line.
-pub const TEXT_PLACES: usize = 133;
+// Places enough for any line: that of a refusal is the longest.
+pub const TEXT_PLACES: usize = refusal_text::LINE_WIDTH;
 
 fn put_rule(text: &mut [u8], at: usize, rule: Rule) -> usize
-    requires { ⌜ at + 14 ≤ length (now text) ⌝ }
-    ensures { λ r. ⌜ Put 14 (ruleWords (ruleNumber rule)) (now (text .entry)) at (now (text .exit)) r ⌝ }
+    requires { ⌜ at + ruleWidth ≤ length (now text) ⌝ }
+    ensures { λ r. ⌜ Put ruleWidth (ruleWords (ruleNumber rule)) (now (text .entry)) at (now (text .exit)) r ⌝ }
 {
     match rule {
         Rule::Setup => put_bytes(text, at, b"breaks setup: "),
@@ -29,8 +29,8 @@ fn put_rule(text: &mut [u8], at: usize, rule: Rule) -> usize
 }
 
 fn put_registers(text: &mut [u8], at: usize, launch: u32, capture: u32) -> usize
-    requires { ⌜ at + 57 ≤ length (now text) ⌝ }
-    ensures { λ r. ⌜ Put 57 (registersWords launch capture) (now (text .entry)) at (now (text .exit)) r ⌝ }
+    requires { ⌜ at + registersWidth ≤ length (now text) ⌝ }
+    ensures { λ r. ⌜ Put registersWidth (registersWords launch capture) (now (text .entry)) at (now (text .exit)) r ⌝ }
 {
     let next = put_named(text, at, b"launch ", launch as u64, b' ');
     put_named(text, next, b"capture ", capture as u64, b'\n')

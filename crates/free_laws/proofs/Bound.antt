@@ -1,4 +1,5 @@
--- Lower bounds of the free period.
+-- Lower bounds of the free period: periods below which no times meet the rules.
+-- A climb from bound to bound that comes to one with a least schedule has found the free period.
 use mathlib.Core.List.{List}
 use mathlib.Core.Logic.{_⊎_, inl, inr}
 use mathlib.Core.Path.{_≡_, ap, sym, _∙_}
@@ -19,7 +20,7 @@ bound-low h = record { under = λ u f p m. omega arith }
 pub bound-max : {ps : List Pair} {a b : ℕ} → Bound ps a → Bound ps b → Bound ps (max a b)
 bound-max a b = record { under = λ u f p m. omega (arith, a .under u f p m, b .under u f p m) }
 
--- at the common period all zero does
+-- none is above the common period: there all zero does
 pub bound-common : {ps : List Pair} {b : ℕ} → Bound ps b → b ≤ common ps
 bound-common {ps} b = b .under (common ps) (time (zeros 0)) (common-pos ps) (common-meets 0 ps)
 

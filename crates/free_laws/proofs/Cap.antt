@@ -1,4 +1,6 @@
--- Raising a schedule as far as the rules of a pair ask, but no time past a cap.
+-- Raising a schedule as far as the rules of a pair ask, but no time past a cap, so that sums stay in 32 bits.
+-- Nothing is lost: a rule is attained up to the cap, and where there is a least schedule it stays under the cap
+-- (FreeLaws.`least-capped`), so that capped rounds reach it as well.
 use mathlib.Core.List.{List}
 use mathlib.Core.Path.{_≡_, ap, sym, _∙_}
 use Prim.Native.Nat.{ℕ, _+_, _-_, _≤_, _<_, max, min}
@@ -49,6 +51,7 @@ relax-obey : (c t : ℕ) (p : Pair) (x : List ℕ) → relaxTo c t p x ≡ obeyT
 unfolding relaxTo
 relax-obey c t p x = rw add-zero
 
+-- setup first, then hold on what setup left; what setup attained, hold takes nothing from
 pub relaxed : (c t : ℕ) (p : Pair) (x : List ℕ) → Capped c x → InRange (length x) p → Relaxed c t p x (relaxTo c t p x)
 relaxed c t p x k h =
     let y : List ℕ = obeyTo c (setup t p) x in

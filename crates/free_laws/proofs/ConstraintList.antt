@@ -1,4 +1,5 @@
 -- Setup and hold are rules of one kind: a list of pairs as a list of rules.
+-- They are the two constraints of Fishburn 1990, written as sums so that no time is below 0.
 use mathlib.Core.Bool.{true}
 use mathlib.Core.List.{List, [], _∷_}
 use mathlib.Core.Path.{_≡_}
@@ -10,12 +11,14 @@ use Rattle.timing.proofs.RuleLaws.{admissible-sound, admissible-complete}
 use Rattle.free_laws.specs.Constraint.{Constraint, Meets, setup, hold, constraints, Within}
 
 -- a property of each rule, from what holds of each pair
-pub each-rule : {P : Pair → Type 0} (Q : Constraint → Type 0) (t : ℕ) → ((p : Pair) → P p → Q (setup t p) × Q (hold p)) → (ps : List Pair) → Each P ps → Each Q (constraints t ps)
+pub each-rule : {P : Pair → Type 0} (Q : Constraint → Type 0) (t : ℕ) → ((p : Pair) → P p → Q (setup t p) × Q (hold p))
+    → (ps : List Pair) → Each P ps → Each Q (constraints t ps)
 each-rule Q t f [] h = tt
 each-rule Q t f (p ∷ ps) h = (f p (h .0) .0, (f p (h .0) .1, each-rule Q t f ps (h .1)))
 
 -- and back
-pub each-pair : {P : Pair → Type 0} (Q : Constraint → Type 0) (t : ℕ) → ((p : Pair) → Q (setup t p) → Q (hold p) → P p) → (ps : List Pair) → Each Q (constraints t ps) → Each P ps
+pub each-pair : {P : Pair → Type 0} (Q : Constraint → Type 0) (t : ℕ) → ((p : Pair) → Q (setup t p) → Q (hold p) → P p)
+    → (ps : List Pair) → Each Q (constraints t ps) → Each P ps
 each-pair Q t f [] h = tt
 each-pair Q t f (p ∷ ps) h = (f p (h .0) (h .1 .0), each-pair Q t f ps (h .1 .1))
 

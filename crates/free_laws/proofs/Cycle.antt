@@ -1,4 +1,7 @@
 -- A walk back along rules adds them up; one that comes back to its start bounds the period.
+-- Round a cycle the times cancel out: its greatest delays ask for no more than its least delays and a period for each
+-- setup step leave. This is the half of Uehara 2009, theorem 5.1.1 (a cycle that asks for too much rules out every
+-- schedule), that a certificate needs.
 use mathlib.Core.List.{List}
 use mathlib.Core.Path.{_≡_, ap}
 use Prim.Native.Nat.{ℕ, _+_, _-_, _*_, _/_, _≤_, _<_}
@@ -24,7 +27,7 @@ module _ {ps : List Pair} {start at gain allowance setups : ℕ} (a : Adds ps st
   pub adds-hold : p .launch ≡ at → Adds ps start (p .capture) gain (allowance + p .least) setups
   adds-hold e = record { sums = λ u f m. omega (arith, a .sums u f m, among u f m .1, ap f e) }
 
--- back at the start: no period is shorter than what the sums leave
+-- back at the start, its time cancels out: no period is shorter than what the sums leave
 pub adds-closed : {ps : List Pair} {start at gain allowance setups r : ℕ} → Adds ps start at gain allowance setups
     → ((u : ℕ) → (at ≡ start → gain ≤ allowance + setups * u) → r ≤ u) → Bound ps r
 adds-closed a told = record { under = λ u f p m. told u (λ e. omega (arith, a .sums u f m, ap f e)) }

@@ -1,4 +1,5 @@
 -- What the free period and the free schedule are: the least of all.
+-- The free period is the shortest whole period with a schedule: T_S of Kohira and Takahashi 2012, section 2.
 use mathlib.Core.Bool.{true}
 use mathlib.Core.List.{List, [], _∷_}
 use mathlib.Core.Path.{_≡_, refl, sym, _∙_, subst}
@@ -45,7 +46,7 @@ module _ (n t : ℕ) (ps : List Pair) (w : Each (InRange n) ps) where
   length-free = rw free-after (after-size (constraints t ps) n (within n t ps w) n)
 
   module _ (f : ℕ → ℕ) (m : Each (Meets f) (constraints t ps)) where
-    -- n rounds find the least schedule
+    -- n rounds find the least schedule: one exists (Least.`least-exists`), and n rounds come to it (Rounds.`settled`)
     pub free-is-least : Least (constraints t ps) n (freeAt n t ps)
     free-is-least =
         let l = least-exists (constraints t ps) n (within n t ps w) f m in
@@ -55,7 +56,7 @@ module _ (n t : ℕ) (ps : List Pair) (w : Each (InRange n) ps) where
     unfolding freeWorks
     meets→works = meets→admissible t ps (freeAt n t ps) (free-is-least .meets)
 
-  -- no register is later than n - 1 of the largest steps
+  -- no register is later than n - 1 of the largest steps: why the least schedule stays under the cap
   pub least-capped : {l : List ℕ} (c d : ℕ) → Each (λ p. p .greatest ≤ t + d) ps → (n - 1) * d ≤ c → Least (constraints t ps) n l → Capped c l
   least-capped {l} c d steps room least r =
       le-trans

@@ -1,4 +1,6 @@
 -- The least schedule that meets a list of rules: that it exists, that there is only one, and how late it can be.
+-- It exists because rounds from all zero raise the sum of the times, and stay below any times that meet the rules.
+-- How late it can be follows from the crossing argument: a tight rule leads out of any set that holds the registers at 0.
 use mathlib.Core.Bool.{Bool, true, false, false≢true}
 use mathlib.Core.List.{List, [], _∷_}
 use mathlib.Core.Logic.{_⊎_, inl, inr}
@@ -78,7 +80,7 @@ module _ (rs : List Constraint) (n : ℕ) (w : Each (Within n) rs) where
   after-below zero f m = zeros-below n f
   after-below (suc k) f m = after-round 0 k .low f m (after-below k f m)
 
-  -- a round that adds nothing to the sum changes nothing
+  -- a round that adds nothing to the sum changes nothing, so the rules are met
   stop : (k : ℕ) → total (after rs n (suc k)) ≤ total (after rs n k) → Each (Meets (time (after rs n k))) rs
   unfolding sweeps
   stop k h =
@@ -89,6 +91,7 @@ module _ (rs : List Constraint) (n : ℕ) (w : Each (Within n) rs) where
     under : (k : ℕ) → total (after rs n k) ≤ sumTo n f
     under k = rw (after-size k) at (total-below (after rs n k) f (after-below k f m))
 
+    -- each round that changes anything adds to the sum, which f bounds: some round changes nothing (what f leaves falls)
     settle : (fuel k : ℕ) → sumTo n f ≤ total (after rs n k) + fuel → (j : ℕ) × Each (Meets (time (after rs n j))) rs
     settle zero k h = (k, stop k (omega (arith, under (suc k))))
     settle (suc fuel) k h = go (leb (total (after rs n (suc k))) (total (after rs n k))) refl (λ j. settle fuel (suc k) j)
@@ -99,7 +102,8 @@ module _ (rs : List Constraint) (n : ℕ) (w : Each (Within n) rs) where
         go true e next = (k, stop k (omega (arith, leb-true)))
         go false e next = next (omega (arith, leb-false))
 
-    -- where some times meet the rules there is a least schedule
+    -- where some times meet the rules there is a least schedule: what the rounds settle at meets the rules, and every
+    -- round stays below all times that meet them
     pub least-exists : (l : List ℕ) × Least rs n l
     least-exists =
         let s = settle (sumTo n f) 0 (omega arith) in
@@ -115,7 +119,9 @@ lowered : List ℕ → (ℕ → Bool) → ℕ → ℕ
 lowered l g r = time l r - (1 - bit (g r))
 
 module _ (rs : List Constraint) (n : ℕ) (l : List ℕ) (w : Each (Within n) rs) (least : Least rs n l) where
-  -- else the registers outside could all be 1 earlier
+  -- The crossing argument. Put all registers outside the set g 1 earlier. Rules with both ends inside, or both outside,
+  -- see no change; a rule that leads in gets easier; one that leads out is still met unless it was tight. So if no tight
+  -- rule led out, the lowered times would meet every rule and be below the least schedule.
   module _ (g : ℕ → Bool) (pos : (r : ℕ) → r < n → g r ≡ false → 0 < time l r) where
     crosses-or-meets : (r : Constraint) → Within n r → Meets (time l) r → Crosses l g r ⊎ Meets (lowered l g) r
     unfolding lowered
@@ -137,7 +143,7 @@ module _ (rs : List Constraint) (n : ℕ) (l : List ℕ) (w : Each (Within n) rs
         go (inl s) = s
         go (inr a) = absurd (omega (arith, least .below (lowered l g) a q, ap bit e, pos q h e))
 
-  -- some register stands at 0
+  -- some register stands at 0: no rule leads out of the empty set
   pub some-zero : 0 < n → (q : ℕ) × (q < n) × (time l q ≡ 0)
   some-zero h = go (find n (λ r. ltb 0 (time l r)))
     where
@@ -151,6 +157,9 @@ module _ (rs : List Constraint) (n : ℕ) (l : List ℕ) (w : Each (Within n) rs
           (cross (λ q. false) (λ r k e. ltb-true 0 (time l r) (all r k)) 0 h refl)
 
   -- ---- how late a register can be: the registers at k steps or fewer grow with k
+
+  -- A tight rule that leads out of the registers at k steps or fewer ends at most one step c later. So with each k one
+  -- register more is among them, and from k = n - 1 on all are.
 
   module _ (c : ℕ) (steps : Each (λ r. r .gain ≤ r .allowance + c) rs) where
     soon : ℕ → ℕ → Bool

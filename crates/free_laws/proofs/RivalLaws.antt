@@ -1,5 +1,6 @@
 -- No schedule beats the free period and the free schedule, with fractional times and times below 0 let in:
 -- lifted above 0 and rounded down, a rival is a whole schedule that meets the same rules.
+-- Rounding down keeps a rule because what it asks for and what it leaves are whole numbers.
 use mathlib.Core.List.{List, [], _∷_}
 use mathlib.Core.Path.{_≡_, ap}
 use Prim.Native.Nat.{ℕ, zero, suc, _+_, _-_, _*_, _/_, _≤_, _<_}
@@ -15,6 +16,7 @@ use Rattle.free_laws.proofs.FreeLaws.{free-is-least, meets→works, per
 
 -- ---- rounding down keeps a rule
 
+-- a rule between the fractions x / d and y / e, that adds whole numbers only, holds between their quotients
 floors : (x y d e g h : ℕ) → 0 < d → 0 < e → (x + g * d) * e ≤ (y + h * e) * d → x / d + g ≤ y / e + h
 floors x y d e g h pd pe m =
     let q : ℕ = x / d in

@@ -1,5 +1,6 @@
 -- Rounds in any order, from all zero: n of them find the least schedule, where there is one.
--- With each round one more register comes to where the least schedule has it.
+-- With each round one more register comes to where the least schedule has it; none ever gets past it.
+-- So after n rounds that leave a rule broken there is no schedule at all: no walks along rules have to be counted.
 use mathlib.Core.Bool.{Bool, true, false}
 use mathlib.Core.List.{List, [], _∷_}
 use mathlib.Core.Path.{_≡_, sym, _∙_}
@@ -50,6 +51,9 @@ module _ (n : ℕ) (rs : List Constraint) (w : Each (Within n) rs) where
       }
 
   module _ {c k : ℕ} {x : List ℕ} (s : Rounds c n rs x k) where
+    -- While some register of x is not placed, a tight rule of the least schedule leads from a placed register to one that
+    -- is not (`cross`). Its source is where the least schedule has it, so it asks of its destination what the least
+    -- schedule has there; a round attains that, and one register more is placed.
     pub rounds-turn : {y : List ℕ} → Round c rs x y → Rounds c n rs y (suc k)
     unfolding placed
     rounds-turn {y} o =
@@ -68,7 +72,8 @@ module _ (n : ℕ) (rs : List Constraint) (w : Each (Within n) rs) where
             pick-some step rs w (o .attained)
             (cross rs n l w least (placed l x) (λ r j i. omega (arith, leb-false (time l r) (time x r) i)) q b e)
           where
-            step : (r : Constraint) → Within n r → Attained c x y r → Crosses l (placed l x) r → (p : ℕ) × (p < n) × (placed l x p ≡ false) × (placed l y p ≡ true)
+            step : (r : Constraint) → Within n r → Attained c x y r → Crosses l (placed l x) r
+                → (p : ℕ) × (p < n) × (placed l x p ≡ false) × (placed l y p ≡ true)
             step r u v z = (
               r .dst,
               u .1,
@@ -80,7 +85,7 @@ module _ (n : ℕ) (rs : List Constraint) (w : Each (Within n) rs) where
     pub rounds-least : Each (Meets (time x)) rs → Least rs n x
     rounds-least m = record { size = s .size; meets = m; below = s .low }
 
-    -- n - 1 rounds or more: the least, if there is one
+    -- n - 1 rounds or more: the least, if there is one, for as many registers are placed as there are
     pub rounds-end : n ≤ suc k → (l : List ℕ) → Capped c l → Least rs n l → x ≡ l
     unfolding placed
     rounds-end b l h least =

@@ -1,4 +1,6 @@
 -- Raising a schedule as far as the rules ask, one rule after the other.
+-- What a round promises (`Round`): no register gets earlier, none gets past times that meet the rules, and each rule's
+-- destination stands at least where the rule asked for it at the start of the round.
 use mathlib.Core.List.{List, [], _∷_}
 use mathlib.Core.Path.{_≡_, refl, _∙_}
 use Prim.Native.Nat.{ℕ, zero, suc, _+_, _-_, _≤_, _<_, max, min, zero-le}
@@ -34,6 +36,7 @@ set-below (a ∷ x) (suc i) v (suc j) f h k = set-below x i v j (λ r. f (suc r)
 
 -- ---- one rule
 
+-- what is attained stays so where the destination is raised further, and counted from earlier times
 pub attained-more : (c : ℕ) (x x′ y y′ : List ℕ) (r : Constraint) → Below x (time x′) → Below y (time y′) → Attained c x′ y r → Attained c x y′ r
 attained-more c x x′ y y′ r a b h = omega (arith, a (r .src), b (r .dst))
 
@@ -69,6 +72,7 @@ unfoldable pub sweeps : ℕ → List Constraint → List ℕ → List ℕ
 sweeps zero rs x = x
 sweeps (suc k) rs x = sweep rs (sweeps k rs x)
 
+-- rule by rule: later raises take nothing back, and what a rule asks of raised times is no less than it asked at the start
 pub sweep-round : (c n : ℕ) (rs : List Constraint) (x : List ℕ) → Each (Within n) rs → length x ≡ n → Round c rs x (sweep rs x)
 unfolding sweep
 sweep-round c n [] x w l = record { size = refl; up = λ j. le-refl _; low = λ f m b. b; attained = tt }
@@ -85,7 +89,7 @@ sweep-round c n (r ∷ rs) x w l =
       );
     }
 
--- what a round leaves as it is meets the rules
+-- what a round leaves as it is meets the rules: each rule, with the cap at what it asks for, is attained
 pub still-meets : (n : ℕ) (rs : List Constraint) (x : List ℕ) → Each (Within n) rs → length x ≡ n → sweep rs x ≡ x → Each (Meets (time x)) rs
 still-meets n rs x w l e =
     each-map (λ r h. omega (arith, h (ask r x))) rs (each-all (λ c. Attained c x x) rs (λ c. rw e at (sweep-round c n rs x w l .attained)))

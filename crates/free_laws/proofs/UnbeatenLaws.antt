@@ -1,4 +1,5 @@
--- The free period and the free schedule are unbeaten.
+-- The free period and the free schedule are unbeaten: by n rounds at the free period the schedule meets every rule
+-- (FreeLaws), and a rival, with fractions or below 0, is brought to whole times before it is compared (RivalLaws).
 use mathlib.Core.List.{List}
 use Prim.Native.Nat.{ℕ}
 use Rattle.timing.specs.declared.Pair.{Pair}

@@ -1,4 +1,5 @@
--- The words in the first places of a buffer.
+-- The words of a list's bytes: none of too many bytes or of half words, and every job refuses those; else four bytes a word,
+-- in the first places of a buffer.
 use Prim.Native.Nat.{ℕ, _/_, _%_, _^_, _≤_, _<_}
 use mathlib.Core.Bool.{Bool, true, false, cond}
 use mathlib.Core.List.{List, [], _++_}
@@ -9,7 +10,7 @@ use lib.ListN.{length, getD, take}
 use borrow.Author.Tests.{ltb-false, lt-ltb, le-ltb, eq-eqb, ne-eqb}
 use Rattle.buffers.specs.Over.{over}
 use Rattle.buffers.proofs.FillLaws.{filled-front, filled-fits}
-use Rattle.words.specs.Bytes.{toWords, toBytes}
+use Rattle.words.specs.Bytes.{byteBits, toWords, toBytes}
 use Rattle.words.proofs.BytesLaws.{words-size, bytes-back}
 use Rattle.refusals.specs.Checks.{Check, orCheck, faultAfter, eachCheck}
 use Rattle.refusals.specs.Reply.{Outcome, refused, answered}
@@ -69,7 +70,7 @@ module _ (bs : List ℕ) where
     loaded-size = rw loaded-front (l .size)
 
   -- the bytes of the words are the bytes
-  pub list-back : length bs ≤ maxBytes → length bs % 4 ≡ 0 → ((i : ℕ) → getD bs i 0 < 2 ^ 8) → toBytes (listOf bs) (length (listOf bs)) ≡ bs
+  pub list-back : length bs ≤ maxBytes → length bs % 4 ≡ 0 → ((i : ℕ) → getD bs i 0 < 2 ^ byteBits) → toBytes (listOf bs) (length (listOf bs)) ≡ bs
   list-back h even small =
       let k : ℕ = length bs / 4 in
       rw (list-even h even, words-size bs k) (bytes-back bs k (omega arith) small)

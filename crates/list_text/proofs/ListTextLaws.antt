@@ -29,13 +29,14 @@ use Rattle.list_format.proofs.ReadBack.{numbers-length}
 use Rattle.list_format.proofs.WriteBack.{given-in, words-length}
 use Rattle.text_pieces.specs.Pieces.{Put}
 use Rattle.text_pieces.proofs.PutLaws.{put-within}
-use Rattle.refusal_text.specs.PlainWords.{refusalLine, faultLine}
+use Rattle.refusal_text.specs.PlainWords.{lineWidth, refusalLine, faultLine}
 use Rattle.list_bytes.specs.ListBytes.{maxWords, maxBytes}
 use Rattle.scan.specs.declared.Scanned.{Scanned}
 use Rattle.scan.specs.declared.Scanned.the-variants.{Numbers, Faulty}
 use Rattle.scan.specs.Scan.{maxNumbers, storedOf, Counted, ScanAs}
 use Rattle.scan.proofs.StoredLaws.{stored-some, stored-first}
-use Rattle.list_text.specs.ListText.{textOf, shownDone, Product, listBytes, errorLine, madeRefused, madeDone, madeFrom, madeOf, made, storedFor, returnedFor, MadeAs}
+use Rattle.list_text.specs.ListText.{listWidth, shownPlaces, textOf, shownDone, Product, listBytes, errorLine, madeRefused, madeDone}
+use Rattle.list_text.specs.ListText.{madeFrom, madeOf, made, storedFor, returnedFor, MadeAs}
 use Rattle.list_text.specs.declared.Made.{Made}
 use Rattle.list_text.specs.declared.Made.the-variants.{Bytes, Fault}
 
@@ -45,8 +46,8 @@ module _ {ws now : List ℕ} {r : Reading} (a : ReadAs ws (zeros (4 * maxPairs))
   reply : readReply r ≡ replyOf (reading ws (4 * maxPairs))
   reply = rw (zeros-size (4 * maxPairs)) at (a .reply)
 
-  pub show-refused : {number place next : ℕ} {text text′ : List ℕ} → r ≡ Refused number place → Put 133 (refusalLine number place) text 0 text′ next
-      → Put (84 * maxPairs + 133) (told refusalLine shownDone (reading ws (4 * maxPairs))) text 0 text′ next
+  pub show-refused : {number place next : ℕ} {text text′ : List ℕ} → r ≡ Refused number place → Put lineWidth (refusalLine number place) text 0 text′ next
+      → Put shownPlaces (told refusalLine shownDone (reading ws (4 * maxPairs))) text 0 text′ next
   unfolding readReply
   show-refused e put = rw (told-refusal refusalLine shownDone (reading ws (4 * maxPairs)) (rw e at reply)) (put-within put (omega (arith, put .most)))
 
@@ -90,8 +91,8 @@ module _ {ws now : List ℕ} {r : Reading} (a : ReadAs ws (zeros (4 * maxPairs))
     pub read-size : 4 * m ≡ length (take (4 * m) now)
     read-size = rw numbers-are (sym count-size)
 
-    pub show-read : {next : ℕ} {text text′ : List ℕ} → Put (84 * maxPairs + 21) (textOf n (take (4 * m) now)) text 0 text′ next
-        → Put (84 * maxPairs + 133) (told refusalLine shownDone (reading ws (4 * maxPairs))) text 0 text′ next
+    pub show-read : {next : ℕ} {text text′ : List ℕ} → Put listWidth (textOf n (take (4 * m) now)) text 0 text′ next
+        → Put shownPlaces (told refusalLine shownDone (reading ws (4 * maxPairs))) text 0 text′ next
     unfolding told
     show-read put =
         let here : told refusalLine shownDone (reading ws (4 * maxPairs)) ≡ textOf n (take (4 * m) now) = rw (is, numbers-are, registers-are) in
@@ -113,7 +114,7 @@ module _ {piece out out′ : List ℕ} {next : ℕ} where
       let e : next ≡ length piece = omega (arith, put .after) in
       record { answer = rw e; stored = rw e at put }
 
-  pub made-fault : Put 133 piece out 0 out′ next → MadeAs (errorLine piece) out out′ (Fault next)
+  pub made-fault : Put lineWidth piece out 0 out′ next → MadeAs (errorLine piece) out out′ (Fault next)
   unfolding returnedFor storedFor
   made-fault put =
       let e : next ≡ length piece = omega (arith, put .after) in
@@ -137,7 +138,7 @@ module _ {n : ℕ} {xs now : List ℕ} {r : Writing} (a : WrittenAs n xs (zeros 
   answer : writeReply r ≡ replyOf (writing n xs maxWords)
   answer = rw (zeros-size maxWords) at (a .reply)
 
-  pub make-refused : {number place next : ℕ} {out out′ : List ℕ} → r ≡ NotWritten number place → Put 133 (refusalLine number place) out 0 out′ next
+  pub make-refused : {number place next : ℕ} {out out′ : List ℕ} → r ≡ NotWritten number place → Put lineWidth (refusalLine number place) out 0 out′ next
       → MadeAs (madeFrom n xs) out out′ (Fault next)
   unfolding writeReply
   make-refused e put = rw (told-refusal madeRefused madeDone (writing n xs maxWords) (rw e at answer)) (made-fault put)
@@ -196,7 +197,8 @@ rest-is (x ∷ xs) was h =
     rw e (take-at xs (drop (suc (length xs)) was) (length xs) refl)
 
 module _ {text xs : List ℕ} {r : Scanned} (a : ScanAs true text (zeros maxNumbers) xs r) where
-  pub make-faulty : {fault line next : ℕ} {out out′ : List ℕ} → r ≡ Faulty fault line → Put 133 (faultLine fault line) out 0 out′ next → MadeAs (made text) out out′ (Fault next)
+  pub make-faulty : {fault line next : ℕ} {out out′ : List ℕ} → r ≡ Faulty fault line → Put lineWidth (faultLine fault line) out 0 out′ next
+      → MadeAs (made text) out out′ (Fault next)
   unfolding madeOf
   make-faulty {fault} {line} e put =
       let here : made text ≡ errorLine (faultLine fault line) = rw (← a .answer, e) in

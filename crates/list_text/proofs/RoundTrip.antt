@@ -1,4 +1,5 @@
--- What is shown of an accepted list is read back to the same bytes.
+-- What is shown of an accepted list is read back to the same bytes: each line is read to the four numbers of its pair
+-- (`four-reads`), the whole text to the numbers of the list, and those write the same words (`read-back` of list_format).
 use Prim.Native.Nat.{ℕ, zero, suc, _+_, _-_, _*_, _/_, _%_, _^_, _≤_, _<_}
 use mathlib.Core.Bool.{Bool, true, false, cond}
 use mathlib.Core.List.{List, [], _∷_, _++_, append-nil}
@@ -11,7 +12,7 @@ use Rattle.timing.specs.Limits.{maxPairs}
 use Rattle.buffers.specs.Run.{run}
 use Rattle.buffers.proofs.RunLaws.{run-most}
 use Rattle.buffers.proofs.PadLaws.{run-same}
-use Rattle.words.specs.Bytes.{toWords, toBytes}
+use Rattle.words.specs.Bytes.{byteBits, toWords, toBytes}
 use Rattle.refusals.specs.Reply.{done, told}
 use Rattle.refusals.proofs.CheckLaws.{pass-both}
 use Rattle.refusals.proofs.ReplyLaws.{answered-done, one-passes}
@@ -23,7 +24,8 @@ use Rattle.text_pieces.specs.Pieces.{number, space, newline}
 use Rattle.text_pieces.proofs.DecimalLaws.{decimal-few}
 use Rattle.scan.specs.declared.State.{State}
 use Rattle.scan.specs.declared.Scanned.the-variants.{Numbers, Faulty}
-use Rattle.scan.specs.Scan.{maxNumbers, textBytes, start, numberEnded, lineFault, finished, kept, after, ended, last, scannedNumbers, scanned, storedOf}
+use Rattle.scan.specs.Scan.{maxNumbers, maxValue, textBytes, start, numberEnded, lineFault, finished}
+use Rattle.scan.specs.Scan.{kept, after, ended, last, scannedNumbers, scanned, storedOf}
 use Rattle.scan.proofs.CaseLaws.{line-next, finish-some, blank-line, pair-line}
 use Rattle.scan.proofs.ReadsLaws.{Reads, reads-none, reads-then, at, reads-space, reads-newline}
 use Rattle.refusal_text.specs.PlainWords.{refusalLine}
@@ -36,7 +38,7 @@ short : (k n end : ℕ) → n < 10 ^ suc k → length (number n end) ≤ k + 2
 short k n end h = rw length-append (omega (arith, decimal-few k n h))
 
 -- the line of a pair, after `count` numbers
-four-reads : (line count a b c d : ℕ) → 0 < count → count + 4 ≤ maxNumbers → a ≤ 4_294_967_295 → b ≤ 4_294_967_295 → c ≤ 4_294_967_295 → d ≤ 4_294_967_295
+four-reads : (line count a b c d : ℕ) → 0 < count → count + 4 ≤ maxNumbers → a ≤ maxValue → b ≤ maxValue → c ≤ maxValue → d ≤ maxValue
     → Reads (at true line count count) (fourLine a b c d) (a ∷ b ∷ c ∷ d ∷ []) (at true (line + 1) (count + 4) (count + 4))
 four-reads line count a b c d some room ha hb hc hd =
     let four : count + 1 + 1 + 1 + 1 ≡ count + 4 = omega arith in
@@ -87,13 +89,14 @@ module _ (ws : List ℕ) (l : ListIn ws) where
       (four-reads (2 + k) (1 + 4 * k) (pairAt ws k .launch) (pairAt ws k .capture) (pairAt ws k .least) (pairAt ws k .greatest) (omega arith) (omega arith)
       (omega (arith, v .launch)) (omega (arith, v .capture)) (omega (arith, v .order, v .limit)) (omega (arith, v .limit))))
 
-  text-reads : Reads (start true) (textOf (registers ws) (numbersOf ws)) (registers ws ∷ numbersOf ws) (at true (2 + pairCount ws) (1 + 4 * pairCount ws) (1 + 4 * pairCount ws))
+  text-reads : Reads (start true) (textOf (registers ws) (numbersOf ws)) (registers ws ∷ numbersOf ws)
+      (at true (2 + pairCount ws) (1 + 4 * pairCount ws) (1 + 4 * pairCount ws))
   unfolding lineFault fourAt
   text-reads =
       rw text-is
       (reads-then (reads-newline true 1 0 0 (registers ws) (omega (arith, l .head .most)) (omega arith) refl) (lines-read (pairCount ws) (omega arith)))
 
-  -- the text is not too long
+  -- the text is not too long: a register or a count has at most 3 digits, a delay 7, so a line has at most 24 bytes
   text-short : length (textOf (registers ws) (numbersOf ws)) ≤ textBytes
   unfolding lineAt
   text-short =
@@ -164,7 +167,7 @@ counts bs = go (ltb maxBytes (length bs)) refl (eqb (length bs % 4) 0) refl
     go false e false e′ h = absurd (omega arith)
 
 -- what is shown of the bytes of an accepted list makes a list again, of those bytes
-pub shown-made : (bs : List ℕ) → ((i : ℕ) → getD bs i 0 < 2 ^ 8) → IsAccepted (listOf bs) → made (shownText bs) ≡ listBytes bs
+pub shown-made : (bs : List ℕ) → ((i : ℕ) → getD bs i 0 < 2 ^ byteBits) → IsAccepted (listOf bs) → made (shownText bs) ≡ listBytes bs
 shown-made bs small a =
     let l = accepted-in (listOf bs) a in
     let both = counts bs (omega (arith, l .head .size)) in

@@ -10,14 +10,28 @@ use Rattle.words.specs.Bytes.{toBytes}
 use Rattle.refusals.specs.Reply.{told}
 use Rattle.list_format.specs.Read.{reading}
 use Rattle.list_format.specs.Write.{givenCount, writing}
-use Rattle.text_pieces.specs.Pieces.{number, space, newline, Put}
+use Rattle.text_pieces.specs.Pieces.{number, space, newline, numberWidth, Put}
 use Rattle.scan.specs.declared.Scanned.{Scanned}
 use Rattle.scan.specs.declared.Scanned.the-variants.{Numbers, Faulty}
 use Rattle.scan.specs.Scan.{scanned, storedOf}
-use Rattle.refusal_text.specs.PlainWords.{refusalLine, faultLine}
+use Rattle.refusal_text.specs.PlainWords.{lineWidth, refusalLine, faultLine}
 use Rattle.list_bytes.specs.ListBytes.{maxWords, maxBytes, listOf}
 use Rattle.list_text.specs.declared.Made.{Made}
 use Rattle.list_text.specs.declared.Made.the-variants.{Bytes, Fault}
+
+-- ---- how long a text can be
+
+-- the line of a pair
+abbrev pub pairWidth : ℕ
+pairWidth = 4 * numberWidth
+
+-- the text of the longest list
+abbrev pub listWidth : ℕ
+listWidth = pairWidth * maxPairs + numberWidth
+
+-- places enough for any text, be it of a list or of a refusal
+abbrev pub shownPlaces : ℕ
+shownPlaces = pairWidth * maxPairs + lineWidth
 
 -- ---- from a list to its text
 

@@ -8,28 +8,34 @@ ghost use Rattle.refusal_text.specs.PlainWords.{refusalLine};
 ghost use Rattle.list_format.specs.Read.{reading};
 ghost use Rattle.list_bytes.specs.ListBytes.{maxBytes};
 ghost use Rattle.timing.specs.Limits.{maxPairs};
-ghost use Rattle.list_text.specs.ListText.{fourLine, pairLine, textOf, shownDone, shownText, madeFrom, made, MadeAs};
+ghost use Rattle.list_text.specs.ListText.{pairWidth, listWidth, shownPlaces, fourLine, pairLine, textOf, shownDone, shownText};
+ghost use Rattle.list_text.specs.ListText.{madeFrom, made, MadeAs};
 ghost use Rattle.buffers.specs.Run.{run};
 ghost use Rattle.words.specs.Bytes.{toBytes};
 use list_bytes::MAX_BYTES;
 use list_bytes::MAX_WORDS;
 use list_format::Reading;
 use list_format::Writing;
+use refusal_text::LINE_WIDTH;
 use scan::MAX_NUMBERS;
 use scan::Scanned;
+use text_pieces::NUMBER_WIDTH;
 use text_pieces::put_number;
 use timing::MAX_PAIRS;
 
 // The numbers of the longest list.
 const PAIR_NUMBERS: usize = 4 * MAX_PAIRS;
 
-// Places enough for any text: 20 digits for each number.
-pub const TEXT_PLACES: usize = 84 * MAX_PAIRS + 133;
+// The most bytes of the line of a pair.
+const PAIR_WIDTH: usize = 4 * NUMBER_WIDTH;
+
+// Places enough for any text, be it of a list or of a refusal.
+pub const TEXT_PLACES: usize = PAIR_WIDTH * MAX_PAIRS + LINE_WIDTH;
 
 // The line of a pair.
 fn put_pair(text: &mut [u8], at: usize, a: u32, b: u32, c: u32, d: u32) -> usize
-    requires { ⌜ at + 84 ≤ length (now text) ⌝ }
-    ensures { λ r. ⌜ Put 84 (fourLine a b c d) (now (text .entry)) at (now (text .exit)) r ⌝ }
+    requires { ⌜ at + pairWidth ≤ length (now text) ⌝ }
+    ensures { λ r. ⌜ Put pairWidth (fourLine a b c d) (now (text .entry)) at (now (text .exit)) r ⌝ }
 {
     let first = put_number(text, at, a as u64, b' ');
     let second = put_number(text, first, b as u64, b' ');
@@ -39,8 +45,8 @@ fn put_pair(text: &mut [u8], at: usize, a: u32, b: u32, c: u32, d: u32) -> usize
 
 // The lines of m pairs.
 fn put_pairs(text: &mut [u8], at: usize, numbers: &[u32], m: usize) -> usize
-    requires { ⌜ (4 * m ≤ length (now numbers)) × (at + 84 * m ≤ length (now text)) ⌝ }
-    ensures { λ r. ⌜ Put (84 * m) (run (pairLine (now (numbers .entry))) m) (now (text .entry)) at (now (text .exit)) r ⌝ }
+    requires { ⌜ (4 * m ≤ length (now numbers)) × (at + pairWidth * m ≤ length (now text)) ⌝ }
+    ensures { λ r. ⌜ Put (pairWidth * m) (run (pairLine (now (numbers .entry))) m) (now (text .entry)) at (now (text .exit)) r ⌝ }
 {
     let mut last = at;
     let mut k = 0;
@@ -61,8 +67,8 @@ fn put_pairs(text: &mut [u8], at: usize, numbers: &[u32], m: usize) -> usize
 
 // The text of n registers and the pairs that the numbers make.
 fn put_list(text: &mut [u8], n: u32, numbers: &[u32]) -> usize
-    requires { ⌜ (length (now numbers) ≤ 4 * maxPairs) × (84 * maxPairs + 21 ≤ length (now text)) ⌝ }
-    ensures { λ r. ⌜ Put (84 * maxPairs + 21) (textOf n (now (numbers .entry))) (now (text .entry)) 0 (now (text .exit)) r ⌝ }
+    requires { ⌜ (length (now numbers) ≤ 4 * maxPairs) × (listWidth ≤ length (now text)) ⌝ }
+    ensures { λ r. ⌜ Put listWidth (textOf n (now (numbers .entry))) (now (text .entry)) 0 (now (text .exit)) r ⌝ }
 {
     let m = numbers.len() / 4;
     let at = put_number(text, 0, n as u64, b'\n');
@@ -71,8 +77,10 @@ fn put_list(text: &mut [u8], n: u32, numbers: &[u32]) -> usize
 
 // The text for a run of words.
 fn put_words(text: &mut [u8], words: &[u32]) -> usize
-    requires { ⌜ 84 * maxPairs + 133 ≤ length (now text) ⌝ }
-    ensures { λ r. ⌜ Put (84 * maxPairs + 133) (told refusalLine shownDone (reading (now (words .entry)) (4 * maxPairs))) (now (text .entry)) 0 (now (text .exit)) r ⌝ }
+    requires { ⌜ shownPlaces ≤ length (now text) ⌝ }
+    ensures { λ r. ⌜
+        Put shownPlaces (told refusalLine shownDone (reading (now (words .entry)) (4 * maxPairs))) (now (text .entry)) 0 (now (text .exit)) r
+        ⌝ }
 {
     let mut numbers = [0u32; PAIR_NUMBERS];
     match read_list::read(words, &mut numbers) {
@@ -86,7 +94,7 @@ fn put_words(text: &mut [u8], words: &[u32]) -> usize
 
 // The text for the bytes of a list, in the first places of `text`; later places keep their contents. The count of its bytes is returned.
 pub fn show(bytes: &[u8], text: &mut [u8; TEXT_PLACES]) -> usize
-    ensures { λ r. ⌜ Put (84 * maxPairs + 133) (shownText (now (bytes .entry))) (now (text .entry)) 0 (now (text .exit)) r ⌝ }
+    ensures { λ r. ⌜ Put shownPlaces (shownText (now (bytes .entry))) (now (text .entry)) 0 (now (text .exit)) r ⌝ }
 {
     let mut words = [0u32; MAX_WORDS];
     let count = list_bytes::load(bytes, &mut words);
@@ -96,7 +104,10 @@ pub fn show(bytes: &[u8], text: &mut [u8; TEXT_PLACES]) -> usize
 // The bytes of all words.
 fn put_bytes(out: &mut [u8], words: &[u32]) -> usize
     requires { ⌜ 4 * length (now words) ≤ length (now out) ⌝ }
-    ensures { λ r. ⌜ Put (4 * length (now (words .entry))) (toBytes (now (words .entry)) (length (now (words .entry)))) (now (out .entry)) 0 (now (out .exit)) r ⌝ }
+    ensures { λ r. ⌜
+        Put (4 * length (now (words .entry))) (toBytes (now (words .entry)) (length (now (words .entry))))
+        (now (out .entry)) 0 (now (out .exit)) r
+        ⌝ }
 {
     let count = words.len();
     words::to_bytes(words, count, out);

@@ -1,4 +1,4 @@
--- A first split is found just where some split works.
+-- A first split is found just where some split works: the run of all splits holds every split of n registers, and nothing else.
 use mathlib.Core.Bool.{Bool, true, false, false≢true}
 use mathlib.Core.List.{List, [], _∷_, _++_, map}
 use mathlib.Core.Path.{_≡_, refl, ap, sym, _∙_}
@@ -53,9 +53,11 @@ split-each zero P h [] e = h .0
 split-each zero P h (b ∷ c) e = absurd (omega arith)
 split-each (suc n) P h [] e = absurd (omega arith)
 split-each (suc n) P h (false ∷ c) e =
-    split-each n (λ (d : List Bool). P (false ∷ d)) (pushed-each P false (splits n) (append-each P (pushed false (splits n)) (pushed true (splits n)) h .0)) c (suc-inj e)
+    split-each n (λ (d : List Bool). P (false ∷ d))
+    (pushed-each P false (splits n) (append-each P (pushed false (splits n)) (pushed true (splits n)) h .0)) c (suc-inj e)
 split-each (suc n) P h (true ∷ c) e =
-    split-each n (λ (d : List Bool). P (true ∷ d)) (pushed-each P true (splits n) (append-each P (pushed false (splits n)) (pushed true (splits n)) h .1)) c (suc-inj e)
+    split-each n (λ (d : List Bool). P (true ∷ d))
+    (pushed-each P true (splits n) (append-each P (pushed false (splits n)) (pushed true (splits n)) h .1)) c (suc-inj e)
 
 -- ---- the first of a run
 

@@ -1,4 +1,5 @@
 -- How the splits that work change with the period and the offset, in parts of a picosecond, u to one.
+-- `over-reach` and `over-lower` are the two halves of Kohira and Takahashi 2012, theorem 1, for one split.
 use mathlib.Core.Bool.{Bool, true, false}
 use mathlib.Core.List.{List, [], _∷_}
 use mathlib.Core.Logic.{_⊎_, inl, inr}
@@ -85,7 +86,8 @@ timing-le : (s : ℕ) (a : Bool) → timeOf s a ≤ s
 timing-le s true = le-refl s
 timing-le s false = omega arith
 
--- a smaller offset, if the period and it reach the greatest delay: the four choices of a pair
+-- A smaller offset, if the period and it reach the greatest delay: the four choices of a pair. Two alike see no offset;
+-- late, early gets easier in setup; early, late meets setup because period and offset reach that far, and hold more easily.
 lower-four : (a b : Bool) (t s o G L : ℕ) → o ≤ s → G ≤ t + o → timeOf s a + G ≤ timeOf s b + t → timeOf s b ≤ timeOf s a + L
     → (timeOf o a + G ≤ timeOf o b + t) × (timeOf o b ≤ timeOf o a + L)
 lower-four false false t s o G L h g p q = (p, q)
@@ -98,16 +100,18 @@ module _ (u t s : ℕ) (c : List Bool) (ps : List Pair) (w : WorksOver u t s c p
   pub over-longer : (v : ℕ) → t ≤ v → WorksOver u v s c ps
   over-longer v h = each-map (λ p m. record { setup = omega (arith, m .setup); hold = m .hold }) ps w
 
-  -- a smaller offset
+  -- a smaller offset: theorem 1, its second half
   pub over-lower : (h o : ℕ) → Each (λ p. p .greatest ≤ h) ps → h * u ≤ t + o → o ≤ s → WorksOver u t o c ps
   over-lower h o cap enough l = each-zip lower ps cap w
     where
       lower : (p : Pair) → p .greatest ≤ h → MeetsOver u t s c p → MeetsOver u t o c p
       lower p g m =
-          let r = lower-four (choiceOf c (p .launch)) (choiceOf c (p .capture)) t s o (p .greatest * u) (p .least * u) l (le-trans (mul-le-mul-right u g) enough) (m .setup) (m .hold) in
+          let far : p .greatest * u ≤ t + o = le-trans (mul-le-mul-right u g) enough in
+          let r = lower-four (choiceOf c (p .launch)) (choiceOf c (p .capture)) t s o (p .greatest * u) (p .least * u) l far (m .setup) (m .hold) in
           record { setup = r .0; hold = r .1 }
 
-  -- period and offset together reach the common period
+  -- Period and offset together reach the common period: theorem 1, its first half. No pair's setup lets its greatest delay
+  -- be longer than the period and the offset together.
   pub over-reach : u ≤ t → common ps * u ≤ t + s
   over-reach h =
       common-is (λ g. g * u ≤ t + s) ps (omega arith)

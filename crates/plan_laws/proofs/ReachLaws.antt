@@ -1,4 +1,6 @@
 -- Reaches: what each pair lets one raise, and that reaches which rise no further give the least period and the first split.
+-- At period t and offset top - t a pair leaves few choices (`Asks`). Read upwards, from what every split that works must
+-- choose, this says what raises a reach; read at reaches that no pair raises, that late above t is a split that works.
 use mathlib.Core.Path.{_≡_, refl, ap, sym, _∙_, subst}
 use mathlib.Core.Bool.{Bool, true, false, false≢true}
 use mathlib.Core.List.{List, [], _∷_}
@@ -75,6 +77,8 @@ module _ (top : ℕ) (ps : List Pair) where
     not-early : (r t : ℕ) (c : List Bool) → works t (top - t) ps c ≡ true → t < reachOf W r → getD c r false ≡ false → ⊥
     not-early r t c w h e = false≢true (sym e ∙ s .late r t h c w)
 
+    -- Below the greatest delay, early, early and late, early break setup: the capture is late. Below half of top and the
+    -- greatest delay late, early breaks setup: a late launch, by its reach, takes the capture with it.
     pub ahead-forces : Forces top ps (p .capture) (ahead top p W)
     ahead-forces t h c w = go (getD c (p .launch) false) (getD c (p .capture) false) refl refl (asks t c (omega (arith, ahead-under)) w)
       where
@@ -83,6 +87,7 @@ module _ (top : ℕ) (ps : List Pair) where
         go false false ex ey q = absurd (not-early (p .launch) t c w (omega arith) ex)
         go true false ex ey q = absurd (omega (arith, of .under))
 
+    -- Below top less the least delay, early, late breaks hold: a late capture, by its reach, takes the launch with it.
     pub behind-forces : Forces top ps (p .launch) (behind top p W)
     behind-forces t h c w = go (getD c (p .launch) false) (getD c (p .capture) false) refl refl (asks t c (omega (arith, behind-under)) w)
       where
@@ -91,7 +96,7 @@ module _ (top : ℕ) (ps : List Pair) where
         go false true ex ey q = absurd (omega arith)
         go false false ex ey q = absurd (not-early (p .capture) t c w (omega arith) ey)
 
-    -- below both its greatest delay and its launch's reach no split works
+    -- below both its greatest delay and its launch's reach no split works: the launch would have to be early and is late
     none-below : (t : ℕ) → t < min (reachOf W (p .launch)) (p .greatest) → (c : List Bool) → works t (top - t) ps c ≡ true → ⊥
     none-below t h c w = go (getD c (p .launch) false) (getD c (p .capture) false) refl (asks t c (omega (arith, of .under)) w)
       where
@@ -100,7 +105,8 @@ module _ (top : ℕ) (ps : List Pair) where
         go true false ex q = omega (arith, of .under)
         go true true ex q = omega arith
 
-    -- late where the reach is above t: the rules of a closed pair are met
+    -- Late where the reach is above t: the rules of a closed pair are met, in each of the four cases. Were a choice broken,
+    -- the pair would raise a reach past t that stands below it, or, with both ends late, ask for a longer period.
     closed-meets : (t : ℕ) → t ≤ top → ReachClosed top W p → min (reachOf W (p .launch)) (p .greatest) ≤ t
         → meets t (top - t) p (ltb t (reachOf W (p .launch))) (ltb t (reachOf W (p .capture))) ≡ true
     closed-meets t h closed b = asks-meets top t p h (of .under) (ltb t (reachOf W (p .launch))) (ltb t (reachOf W (p .capture))) (go _ _ refl refl)
@@ -153,6 +159,10 @@ late-at t W r = ap (getD (lateAbove t W) r) (sym (le-ltb t 0 (omega arith))) ∙
 
 -- ---- reaches that rise no further
 
+-- They give the two-timing period at once, without a search. From that period up the split that is late where the reach is
+-- above t works (`late-works`), and every split that works is late there too (`late-least`), so it is the first; below,
+-- some pair leaves no choice to any split (`none-shorter`). So it is the least period at which a split works.
+
 module _ (n start top : ℕ) (ps : List Pair) (W : List ℕ) (size : length W ≡ n) (h : start ≤ top) (under : Each (λ p. p .greatest ≤ top) ps)
     (s : Reaches top ps W) (closed : Each (ReachClosed top W) ps) where
   abbrev two : ℕ
@@ -201,7 +211,7 @@ level-at zero f r = zero-le
 level-at (suc k) f zero = le-refl f
 level-at (suc k) f (suc r) = level-at k f r
 
--- at periods below a bound of the free period no split works: a split is a schedule
+-- at periods below a bound of the free period no split works, for a split is a schedule: so the sweeps may start there
 pub reaches-level : (top : ℕ) (ps : List Pair) (k f : ℕ) → f ≤ top → Bound ps (f + 1) → Reaches top ps (replicate k f)
 unfolding works
 reaches-level top ps k f h b =

@@ -1,4 +1,5 @@
--- Reaches that rise no further give the two-timing period and its split.
+-- Reaches that rise no further give the two-timing period and its split: with top at the common period, the period that
+-- they give is the least from 1 up at which a split works (`two-is-least`), and the least is unique.
 use mathlib.Core.Path.{_≡_, ap, sym}
 use mathlib.Core.List.{List}
 use Prim.Native.Nat.{ℕ, _-_, _≤_}

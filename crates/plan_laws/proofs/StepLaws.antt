@@ -1,4 +1,5 @@
 -- Steps that raise reaches: one raise, the two raises of a pair, and steps one after the other.
+-- A step that moves nothing has brought about what it was to; any other leaves less to rise (`room` falls), so sweeps end.
 use mathlib.Core.Path.{_≡_, refl, _∙_, subst, subst⁻¹}
 use mathlib.Core.Bool.{Bool, true, false, _||_}
 use mathlib.Core.List.{List, [], _∷_}
@@ -18,7 +19,8 @@ room-set top [] r v l h k = absurd (not-suc-le-zero l)
 room-set top (x ∷ W) zero v l h k = omega arith
 room-set top (x ∷ W) (suc r) v l h k = omega (arith, room-set top W r v (le-of-suc-le-suc l) h k)
 
-told-then : (top : ℕ) (D E : List ℕ → Type 0) (W M W′ : List ℕ) (o o′ : Bool) → ReachTold o top D W M → ReachTold o′ top E M W′ → ReachTold (o || o′) top (λ X. D X × E X) W W′
+told-then : (top : ℕ) (D E : List ℕ → Type 0) (W M W′ : List ℕ) (o o′ : Bool) → ReachTold o top D W M → ReachTold o′ top E M W′
+    → ReachTold (o || o′) top (λ X. D X × E X) W W′
 told-then top D E W M W′ false false h k = (k .0 ∙ h .0, (h .1, subst E (h .0) (k .1)))
 told-then top D E W M W′ false true h k = subst (λ (X : List ℕ). room top W′ < room top X) (h .0) k
 told-then top D E W M W′ true false h k = subst⁻¹ (λ (X : List ℕ). room top X < room top W) (k .0) h
@@ -64,15 +66,22 @@ module _ {top : ℕ} {ps : List Pair} where
 
   -- ---- a pair: its capture is raised, then its launch
 
+  -- both raises are to what is forced, so the reaches stay reaches; where neither moved, the pair is closed
+
   pub pair-step : {p : Pair} → PairOf top ps p → {W M W′ : List ℕ} → InRange (length W) p → Reaches top ps W → {x y o : Bool}
       → Raised (p .capture) (ahead top p W) W M x → Raised (p .launch) (behind top p M) M W′ y → o ≡ (x || y)
       → ReachStep top ps (λ X. ReachClosed top X p) W W′ o
   pair-step {p} of {W} {M} {W′} inside s {x} {y} a b e =
-      let one = step-raise W (p .capture) (ahead top p W) x M s (inside .capture) (ahead-under top ps W s p of) (ahead-forces top ps W s p of) (a .rose) in
-      let two = step-raise M (p .launch) (behind top p M) y W′ (one .reaches) (rw (one .size) (inside .launch)) (behind-under top ps M (one .reaches) p of) (behind-forces top ps M (one .reaches) p of) (b .rose) in
+      let under = ahead-under top ps W s p of in
+      let one = step-raise W (p .capture) (ahead top p W) x M s (inside .capture) under (ahead-forces top ps W s p of) (a .rose) in
+      let s′ = one .reaches in
+      let there : p .launch < length M = rw (one .size) (inside .launch) in
+      let under′ = behind-under top ps M s′ p of in
+      let two = step-raise M (p .launch) (behind top p M) y W′ s′ there under′ (behind-forces top ps M s′ p of) (b .rose) in
       rw e (both x (a .rose) (step-then refl one two))
     where
-      both : (x : Bool) → Rose x (p .capture) (ahead top p W) W M → ReachStep top ps (λ X. (ahead top p W ≤ reachOf X (p .capture)) × (behind top p M ≤ reachOf X (p .launch))) W W′ (x || y)
+      both : (x : Bool) → Rose x (p .capture) (ahead top p W) W M
+          → ReachStep top ps (λ X. (ahead top p W ≤ reachOf X (p .capture)) × (behind top p M ≤ reachOf X (p .launch))) W W′ (x || y)
           → ReachStep top ps (λ X. ReachClosed top X p) W W′ (x || y)
       both false r h = step-with (λ d. record { capture = d .0; launch = subst (λ (X : List ℕ). behind top p X ≤ reachOf W (p .launch)) (r .0) (d .1) }) h
       both true r h = record { size = h .size; reaches = h .reaches; told = h .told }

@@ -1,4 +1,5 @@
 -- The two-timing period: what works goes on working at longer periods, and no rival beats it.
+-- It rests on Kohira and Takahashi 2012, theorem 1, carried over to offsets that are fractions.
 use mathlib.Core.Bool.{Bool, true, false}
 use mathlib.Core.List.{List}
 use mathlib.Core.Path.{_≡_, sym, subst}
@@ -20,6 +21,9 @@ use Rattle.plan_laws.proofs.OffsetLaws.{works→over, over→works, ove
 
 -- ---- theorem 1: a split that works at an offset p / q works at the common period less the period too, and p / q is no less
 
+-- Kohira and Takahashi 2012, theorem 1. All is multiplied by q, so that the offset is whole; lowered to the common period
+-- less the period, which is whole, and divided by q again.
+
 module _ (n : ℕ) (ps : List Pair) (t p q : ℕ) (c : List Bool) (pos : 1 ≤ t) (r : RivalSplit n ps t p q c) where
   pub rival-offset : (common ps - t) * q ≤ p
   rival-offset = omega (arith, mul-sub q (common ps) t, over-reach q (t * q) p c ps (r .works) (omega (arith, mul-le-mul-right q pos)))
@@ -28,7 +32,9 @@ module _ (n : ℕ) (ps : List Pair) (t p q : ℕ) (c : List Bool) (pos : 1 ≤ t
   rival-works =
       let d : ℕ = common ps - t in
       let enough : common ps ≤ t + d = omega arith in
-      let w : WorksOver q (t * q) (d * q) c ps = over-lower q (t * q) p c ps (r .works) (common ps) (d * q) (below-common ps (common ps) (le-refl _)) (omega (arith, mul-le-mul-right q enough)) rival-offset in
+      let room : common ps * q ≤ t * q + d * q = omega (arith, mul-le-mul-right q enough) in
+      let cap = below-common ps (common ps) (le-refl _) in
+      let w : WorksOver q (t * q) (d * q) c ps = over-lower q (t * q) p c ps (r .works) (common ps) (d * q) cap room rival-offset in
       over→works t d c ps (over-coarser q 1 t d c ps (r .proper) (subst (λ (u : ℕ). WorksOver u (t * q) (d * q) c ps) (sym (one-mul q)) w))
 
   pub rival-there : twoWorks n ps t ≡ true
@@ -38,7 +44,7 @@ module _ (n : ℕ) (ps : List Pair) (t p q : ℕ) (c : List Bool) (pos : 1 ≤ t
 module _ (n : ℕ) (ps : List Pair) where
   -- ---- periods at which some split works
 
-  -- what works goes on working
+  -- what works goes on working: at the longer period with the old offset, and then with the smaller one
   pub two-longer : (t u : ℕ) → t ≤ u → twoWorks n ps t ≡ true → twoWorks n ps u ≡ true
   unfolding twoWorks
   two-longer t u l e =
@@ -52,7 +58,8 @@ module _ (n : ℕ) (ps : List Pair) where
   unfolding twoWorks
   two-at-common =
       works→there n (common ps) (common ps - common ps) ps (allEarly n) (length-replicate n false)
-      (over→works (common ps) (common ps - common ps) (allEarly n) ps (over-early n 1 (common ps) (common ps - common ps) (common ps) ps (below-common ps (common ps) (le-refl _)) (omega arith)))
+      (over→works (common ps) (common ps - common ps) (allEarly n) ps
+      (over-early n 1 (common ps) (common ps - common ps) (common ps) ps (below-common ps (common ps) (le-refl _)) (omega arith)))
 
   -- ---- the least of them
 
@@ -77,7 +84,8 @@ module _ (n : ℕ) (ps : List Pair) where
   unfolding twoWorks twoOffset
   two-split = split-there n (twoPeriod n ps) (common ps - twoPeriod n ps) ps two-works
 
-  -- no rival has a shorter period, nor a smaller offset at this one
+  -- no rival has a shorter period, nor a smaller offset at this one: by theorem 1 its split works with the offset that the
+  -- definition tries, so its period is among those of which ours is the least
   pub two-best : (t p q : ℕ) (c : List Bool) → 1 ≤ t → RivalSplit n ps t p q c
       → (twoPeriod n ps ≤ t) × (t ≡ twoPeriod n ps → twoOffset n ps * q ≤ p)
   unfolding twoOffset

@@ -1,4 +1,5 @@
--- The plan is unbeaten.
+-- The plan is unbeaten: its split is the first that works, no rival split has a shorter period or a smaller offset
+-- (TwoLaws, by Kohira and Takahashi 2012, theorem 1, for fractions), and its free part is `free-unbeaten`.
 use mathlib.Core.List.{List}
 use mathlib.Core.Path.{_≡_, ap, _∙_}
 use Prim.Native.Nat.{ℕ}

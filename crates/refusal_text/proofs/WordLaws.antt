@@ -1,4 +1,4 @@
--- The words for a number, stored.
+-- The words for a number that has no row of its own, stored.
 use Prim.Native.Nat.{ℕ, _≤_}
 use Prim.Native.String.{String}
 use mathlib.Core.List.{List, [], _∷_}
@@ -7,7 +7,7 @@ use native.Mathlib.Omega.{arith}
 use borrow.Author.Tests.{ne-eqb}
 use Rattle.text_pieces.specs.Pieces.{letters, Put}
 use Rattle.text_pieces.proofs.PutLaws.{put-within}
-use Rattle.refusal_text.specs.PlainWords.{wordsFor}
+use Rattle.refusal_text.specs.PlainWords.{wordsWidth, wordsFor}
 
 -- no row has the number
 abbrev pub NoRow : List (ℕ × String) → ℕ → Type 0
@@ -19,6 +19,6 @@ unfolding wordsFor
 are-others [] others number h = refl
 are-others ((k, words) ∷ rows) others number h = rw (ne-eqb number k (h .0)) (are-others rows others number (h .1))
 
-pub others-said : (rows : List (ℕ × String)) (others : String) (number : ℕ) {w at next : ℕ} {was now : List ℕ} → NoRow rows number → Put w (letters others) was at now next → w ≤ 80
-    → Put 80 (wordsFor rows others number) was at now next
+pub others-said : (rows : List (ℕ × String)) (others : String) (number : ℕ) {w at next : ℕ} {was now : List ℕ} → NoRow rows number
+    → Put w (letters others) was at now next → w ≤ wordsWidth → Put wordsWidth (wordsFor rows others number) was at now next
 others-said rows others number none put h = rw (are-others rows others number none) (put-within put (omega (arith, put .most)))

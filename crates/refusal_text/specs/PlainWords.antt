@@ -1,13 +1,25 @@
 -- What is printed for a refusal, and for a text that cannot be read: one line, which says in plain words what is wrong.
-use Prim.Native.Nat.{ℕ}
+use Prim.Native.Nat.{ℕ, _+_}
 use Prim.Native.String.{String}
 use mathlib.Core.Bool.{cond}
 use mathlib.Core.List.{List, [], _∷_, _++_}
 use lib.Dec.{eqb}
-use Rattle.text_pieces.specs.Pieces.{letters, named, refusedAt}
+use Rattle.text_pieces.specs.Pieces.{letters, named, refusedAt, refusedWidth}
 
 abbrev pub colon : ℕ
 colon = 58
+
+-- ---- how long a line can be
+
+-- the words for a refusal, or for what is wrong with a text
+abbrev pub wordsWidth : ℕ
+wordsWidth = 80
+
+-- the whole line
+abbrev pub lineWidth : ℕ
+lineWidth = refusedWidth + wordsWidth
+
+-- ---- the words
 
 -- the words for a number: those of the row with that number, or the others if there is none
 unfoldable pub wordsFor : List (ℕ × String) → String → ℕ → List ℕ

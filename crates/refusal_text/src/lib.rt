@@ -1,16 +1,23 @@
 // One line for a refusal, or for a text that cannot be read: what is wrong, in plain words.
-// The contracts cite `specs/PlainWords.antt`. With 20 digits for each number, no line has more than 133 bytes.
+// The contracts cite `specs/PlainWords.antt`.
 ghost use Prim.Native.Nat.{_+_, _≤_};
 ghost use lib.ListN.{length};
 ghost use Rattle.text_pieces.specs.Pieces.{Put};
-ghost use Rattle.refusal_text.specs.PlainWords.{meaning, trouble, refusalLine, faultLine};
+ghost use Rattle.refusal_text.specs.PlainWords.{wordsWidth, lineWidth, meaning, trouble, refusalLine, faultLine};
+use text_pieces::REFUSED_WIDTH;
 use text_pieces::put_bytes;
 use text_pieces::put_named;
 use text_pieces::put_refused;
 
+// The most bytes of the words for a refusal or for what is wrong with a text.
+const WORDS_WIDTH: usize = 80;
+
+// The most bytes of a line.
+pub const LINE_WIDTH: usize = REFUSED_WIDTH + WORDS_WIDTH;
+
 fn put_meaning(text: &mut [u8], at: usize, number: u32) -> usize
-    requires { ⌜ at + 80 ≤ length (now text) ⌝ }
-    ensures { λ r. ⌜ Put 80 (meaning number) (now (text .entry)) at (now (text .exit)) r ⌝ }
+    requires { ⌜ at + wordsWidth ≤ length (now text) ⌝ }
+    ensures { λ r. ⌜ Put wordsWidth (meaning number) (now (text .entry)) at (now (text .exit)) r ⌝ }
 {
     match number {
         11 => put_bytes(text, at, b" the count of words or numbers is wrong\n"),
@@ -46,8 +53,8 @@ fn put_meaning(text: &mut [u8], at: usize, number: u32) -> usize
 }
 
 fn put_trouble(text: &mut [u8], at: usize, fault: u32) -> usize
-    requires { ⌜ at + 80 ≤ length (now text) ⌝ }
-    ensures { λ r. ⌜ Put 80 (trouble fault) (now (text .entry)) at (now (text .exit)) r ⌝ }
+    requires { ⌜ at + wordsWidth ≤ length (now text) ⌝ }
+    ensures { λ r. ⌜ Put wordsWidth (trouble fault) (now (text .entry)) at (now (text .exit)) r ⌝ }
 {
     match fault {
         1 => put_bytes(
@@ -78,8 +85,8 @@ fn put_trouble(text: &mut [u8], at: usize, fault: u32) -> usize
 
 // The line of a refusal.
 pub fn put_refusal(text: &mut [u8], number: u32, place: usize) -> usize
-    requires { ⌜ 133 ≤ length (now text) ⌝ }
-    ensures { λ r. ⌜ Put 133 (refusalLine number place) (now (text .entry)) 0 (now (text .exit)) r ⌝ }
+    requires { ⌜ lineWidth ≤ length (now text) ⌝ }
+    ensures { λ r. ⌜ Put lineWidth (refusalLine number place) (now (text .entry)) 0 (now (text .exit)) r ⌝ }
 {
     let a = put_refused(text, number, place, b':');
     put_meaning(text, a, number)
@@ -87,8 +94,8 @@ pub fn put_refusal(text: &mut [u8], number: u32, place: usize) -> usize
 
 // The line for a text that cannot be read.
 pub fn put_fault(text: &mut [u8], fault: u32, line: usize) -> usize
-    requires { ⌜ 133 ≤ length (now text) ⌝ }
-    ensures { λ r. ⌜ Put 133 (faultLine fault line) (now (text .entry)) 0 (now (text .exit)) r ⌝ }
+    requires { ⌜ lineWidth ≤ length (now text) ⌝ }
+    ensures { λ r. ⌜ Put lineWidth (faultLine fault line) (now (text .entry)) 0 (now (text .exit)) r ⌝ }
 {
     let a = put_named(text, 0, b"line ", line as u64, b':');
     put_trouble(text, a, fault)

@@ -1,4 +1,4 @@
--- The definitions give every text of the table.
+-- The definitions give every text of the table: by computation, from the bytes of a list to the last newline.
 use mathlib.Core.List.{map}
 use mathlib.Core.Path.{_≡_, refl}
 use Rattle.timing.specs.Rules.{admissible}
@@ -18,5 +18,8 @@ use Rattle.report.specs.Report.{periodsLine, registerLines, report}
 use Rattle.report.specs.Printed.{printedTable}
 
 pub printed-shown : map (λ p. report (p .bytes)) printedTable ≡ map (λ p. letters (p .text)) printedTable
-unfolding printedTable admissible firstFrom least run total orCheck faultAfter eachCheck unless pairsFrom relax round rounds freeAt freeWorks common freePeriod freeSchedule works splits firstOf firstSplit splitWorks twoWorks twoPeriod twoOffset twoSplit twoTimings planning decimalIn decimal refusedAt periodsLine registerLines told listOf report
+unfolding printedTable admissible firstFrom least run total orCheck faultAfter eachCheck unless pairsFrom
+    relax round rounds freeAt freeWorks common freePeriod freeSchedule works splits firstOf firstSplit
+    splitWorks twoWorks twoPeriod twoOffset twoSplit twoTimings planning
+    decimalIn decimal refusedAt periodsLine registerLines told listOf report
 printed-shown = refl

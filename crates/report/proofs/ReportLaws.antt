@@ -1,4 +1,4 @@
--- The text for a run of words, from what the call for its plan returned and stored.
+-- The text for a run of words, from what the call for its plan returned and stored; and that the largest buffers are enough.
 use Prim.Native.Nat.{ℕ, _+_, _*_, _≤_}
 use mathlib.Core.List.{List, [], _∷_, _++_}
 use mathlib.Core.Path.{_≡_}
@@ -17,9 +17,9 @@ use Rattle.plan_laws.specs.Plan.{twoPeriod, twoOffset, twoTimings}
 use Rattle.planner.specs.PlanCall.{planCallChecks, planning, planReply, PlanAs}
 use Rattle.planner.specs.declared.Planning.{Planning}
 use Rattle.planner.specs.declared.Planning.the-variants.{Planned, Refused}
-use Rattle.text_pieces.specs.Pieces.{Put}
+use Rattle.text_pieces.specs.Pieces.{refusedWidth, Put}
 use Rattle.text_pieces.proofs.PutLaws.{put-within}
-use Rattle.report.specs.Report.{planLine, registerLines, planLines, refusedLine, textPlaces, planOf, report}
+use Rattle.report.specs.Report.{periodsWidth, registerWidth, planLine, registerLines, planLines, refusedLine, textPlaces, planOf, report}
 use Rattle.list_bytes.specs.ListBytes.{listOf}
 use Rattle.list_bytes.proofs.LoadLaws.{none-refused}
 
@@ -33,7 +33,7 @@ module _ {ws answer scratch : List ℕ} {r : Planning} (a : PlanAs ws (zeros (2 
   plan-reply = rw (zeros-size (2 * maxRegisters), zeros-size maxScratch) at (a .reply)
 
   -- the text of a refusal
-  pub text-refused : {number place next : ℕ} {was now : List ℕ} → r ≡ Refused number place → Put 53 (refusedLine number place) was 0 now next
+  pub text-refused : {number place next : ℕ} {was now : List ℕ} → r ≡ Refused number place → Put refusedWidth (refusedLine number place) was 0 now next
       → Put textPlaces (told refusedLine (planLines (registers ws)) (planOf ws)) was 0 now next
   unfolding planReply
   text-refused e put =
@@ -49,12 +49,14 @@ module _ {ws answer scratch : List ℕ} {r : Planning} (a : PlanAs ws (zeros (2 
     planned-in = numbers-in ws (planCallChecks (registers ws) (pairCount ws) (2 * maxRegisters) maxScratch) _ plan-told .head
 
     -- the text of a plan
-    pub text-planned : {n next : ℕ} {was now : List ℕ} → n ≡ registers ws → Put (107 + 63 * n) (planLines n (c ∷ f ∷ t ∷ o ∷ []) answer) was 0 now next
+    pub text-planned : {n next : ℕ} {was now : List ℕ} → n ≡ registers ws
+        → Put (periodsWidth + registerWidth * n) (planLines n (c ∷ f ∷ t ∷ o ∷ []) answer) was 0 now next
         → Put textPlaces (told refusedLine (planLines (registers ws)) (planOf ws)) was 0 now next
     text-planned {n} h put =
         let few : n ≤ maxRegisters = omega (arith, planned-in .most) in
         let stored : answer ≡ bufferAfter (planOf ws) (zeros (2 * maxRegisters)) = rw (zeros-size (2 * maxRegisters), zeros-size maxScratch) at (a .stored) in
-        rw (told-numbers refusedLine (planLines (registers ws)) (zeros (2 * maxRegisters)) (plan-same (registers ws) (2 * maxRegisters)) (planOf ws) plan-told, ← stored, ← h)
+        let same = plan-same (registers ws) (2 * maxRegisters) in
+        rw (told-numbers refusedLine (planLines (registers ws)) (zeros (2 * maxRegisters)) same (planOf ws) plan-told, ← stored, ← h)
         (put-within put (omega (arith, put .most)))
 
 -- ---- bytes that make no words
@@ -66,7 +68,10 @@ none-reported bs e = rw (none-refused bs (planCallChecks (registers (listOf bs))
 -- ---- room for the largest list is room for every list: no accepted list is refused for want of it
 
 pub room-for-all : (ws : List ℕ) → IsAccepted ws
-    → planOf ws ≡ done (common (pairs ws) ∷ freePeriod (registers ws) (pairs ws) ∷ twoPeriod (registers ws) (pairs ws) ∷ twoOffset (registers ws) (pairs ws) ∷ []) (freeSchedule (registers ws) (pairs ws) ++ twoTimings (registers ws) (pairs ws))
+    → planOf ws
+    ≡ done
+    (common (pairs ws) ∷ freePeriod (registers ws) (pairs ws) ∷ twoPeriod (registers ws) (pairs ws) ∷ twoOffset (registers ws) (pairs ws) ∷ [])
+    (freeSchedule (registers ws) (pairs ws) ++ twoTimings (registers ws) (pairs ws))
 unfolding planning
 room-for-all ws a =
     let head = accepted-in ws a .head in

@@ -8,7 +8,7 @@ use Rattle.refusals.specs.Reply.{Outcome, told}
 use Rattle.list_format.specs.Lists.{registers}
 use Rattle.list_bytes.specs.ListBytes.{listOf}
 use Rattle.planner.specs.PlanCall.{planning}
-use Rattle.text_pieces.specs.Pieces.{letters, number, named, refusedAt, space, newline}
+use Rattle.text_pieces.specs.Pieces.{letters, number, named, refusedAt, space, newline, numberWidth}
 
 -- ---- the lines
 
@@ -37,7 +37,17 @@ planLines n returned stored = periodsLine returned ++ registerLines n stored
 abbrev pub refusedLine : ℕ → ℕ → List ℕ
 refusedLine number place = refusedAt number place newline
 
--- places enough for any text: 20 digits for each number
+-- ---- how long a text can be
+
+-- "common ", "free ", "two " and "offset " with their numbers
+abbrev pub periodsWidth : ℕ
+periodsWidth = 7 + numberWidth + (5 + numberWidth + (4 + numberWidth + (7 + numberWidth)))
+
+-- the line of a register
+abbrev pub registerWidth : ℕ
+registerWidth = 3 * numberWidth
+
+-- places enough for any text: that of the largest list has at most 32,363 bytes
 abbrev pub textPlaces : ℕ
 textPlaces = 32_768
 

@@ -1,10 +1,11 @@
 // From the bytes of a delay list to the text of its plan.
-// The contracts cite `specs/Report.antt`. With 20 digits for each number, line one has at most 107 bytes, the line of a register 63 and a refusal 53.
+// The contracts cite `specs/Report.antt`.
 ghost use mathlib.Core.List.{[], _∷_};
 ghost use Prim.Native.Nat.{_+_, _*_, _≤_};
 ghost use lib.ListN.{length};
 ghost use Rattle.text_pieces.specs.Pieces.{Put};
-ghost use Rattle.report.specs.Report.{periodsLine, registerLine, registerLines, planLines, refusedLine, textPlaces, planOf, report};
+ghost use Rattle.report.specs.Report.{periodsWidth, registerWidth, textPlaces, periodsLine, registerLine, registerLines, planLines};
+ghost use Rattle.report.specs.Report.{refusedLine, planOf, report};
 ghost use Rattle.refusals.specs.Reply.{told};
 ghost use Rattle.list_format.specs.Lists.{registers};
 use list_bytes::MAX_WORDS;
@@ -18,13 +19,13 @@ use timing::MAX_SCRATCH;
 // The places that the plan of the largest list takes in the answer buffer.
 const ANSWER_PLACES: usize = 2 * MAX_REGISTERS as usize;
 
-// Places enough for any text.
+// Places enough for any text: that of the largest list has at most 32,363 bytes.
 pub const TEXT_PLACES: usize = 32_768;
 
 // Line one: the three periods and the offset.
 fn put_periods(text: &mut [u8], common: u32, free: u32, two: u32, offset: u32) -> usize
-    requires { ⌜ 107 ≤ length (now text) ⌝ }
-    ensures { λ r. ⌜ Put 107 (periodsLine (common ∷ free ∷ two ∷ offset ∷ [])) (now (text .entry)) 0 (now (text .exit)) r ⌝ }
+    requires { ⌜ periodsWidth ≤ length (now text) ⌝ }
+    ensures { λ r. ⌜ Put periodsWidth (periodsLine (common ∷ free ∷ two ∷ offset ∷ [])) (now (text .entry)) 0 (now (text .exit)) r ⌝ }
 {
     let a = put_named(text, 0, b"common ", common as u64, b' ');
     let b = put_named(text, a, b"free ", free as u64, b' ');
@@ -34,8 +35,8 @@ fn put_periods(text: &mut [u8], common: u32, free: u32, two: u32, offset: u32) -
 
 // A register, its free timing, its two-timing value.
 fn put_register(text: &mut [u8], at: usize, r: usize, free: u32, two: u32) -> usize
-    requires { ⌜ at + 63 ≤ length (now text) ⌝ }
-    ensures { λ z. ⌜ Put 63 (registerLine r free two) (now (text .entry)) at (now (text .exit)) z ⌝ }
+    requires { ⌜ at + registerWidth ≤ length (now text) ⌝ }
+    ensures { λ z. ⌜ Put registerWidth (registerLine r free two) (now (text .entry)) at (now (text .exit)) z ⌝ }
 {
     let a = put_number(text, at, r as u64, b' ');
     let b = put_number(text, a, free as u64, b' ');
@@ -44,8 +45,8 @@ fn put_register(text: &mut [u8], at: usize, r: usize, free: u32, two: u32) -> us
 
 // A line for each of n registers, whose timings stand in the first 2n places of `answer`.
 fn put_registers(text: &mut [u8], at: usize, answer: &[u32], n: usize) -> usize
-    requires { ⌜ (2 * n ≤ length (now answer)) × (at + 63 * n ≤ length (now text)) ⌝ }
-    ensures { λ z. ⌜ Put (63 * n) (registerLines n (now (answer .entry))) (now (text .entry)) at (now (text .exit)) z ⌝ }
+    requires { ⌜ (2 * n ≤ length (now answer)) × (at + registerWidth * n ≤ length (now text)) ⌝ }
+    ensures { λ z. ⌜ Put (registerWidth * n) (registerLines n (now (answer .entry))) (now (text .entry)) at (now (text .exit)) z ⌝ }
 {
     let mut last = at;
     let mut r = 0;
@@ -66,8 +67,11 @@ fn put_planned(
     answer: &[u32],
     n: usize,
 ) -> usize
-    requires { ⌜ (2 * n ≤ length (now answer)) × (107 + 63 * n ≤ length (now text)) ⌝ }
-    ensures { λ r. ⌜ Put (107 + 63 * n) (planLines n (common ∷ free ∷ two ∷ offset ∷ []) (now (answer .entry))) (now (text .entry)) 0 (now (text .exit)) r ⌝ }
+    requires { ⌜ (2 * n ≤ length (now answer)) × (periodsWidth + registerWidth * n ≤ length (now text)) ⌝ }
+    ensures { λ r. ⌜
+        Put (periodsWidth + registerWidth * n) (planLines n (common ∷ free ∷ two ∷ offset ∷ []) (now (answer .entry)))
+        (now (text .entry)) 0 (now (text .exit)) r
+        ⌝ }
 {
     let at = put_periods(text, common, free, two, offset);
     put_registers(text, at, answer, n)
@@ -76,7 +80,10 @@ fn put_planned(
 // The text for a run of words.
 fn put_text(text: &mut [u8], words: &[u32]) -> usize
     requires { ⌜ textPlaces ≤ length (now text) ⌝ }
-    ensures { λ r. ⌜ Put textPlaces (told refusedLine (planLines (registers (now (words .entry)))) (planOf (now (words .entry)))) (now (text .entry)) 0 (now (text .exit)) r ⌝ }
+    ensures { λ r. ⌜
+        Put textPlaces (told refusedLine (planLines (registers (now (words .entry)))) (planOf (now (words .entry))))
+        (now (text .entry)) 0 (now (text .exit)) r
+        ⌝ }
 {
     let mut answer = [0u32; ANSWER_PLACES];
     let mut scratch = [0u32; MAX_SCRATCH];

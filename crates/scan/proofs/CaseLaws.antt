@@ -5,9 +5,9 @@ use mathlib.Core.List.{List}
 use mathlib.Core.Path.{_≡_, refl, sym, _∙_}
 use lib.ListN.{set}
 use borrow.Author.Tests.{not-true, not-false, lt-ltb, le-ltb, eq-eqb, ne-eqb}
-use Rattle.text_pieces.specs.Pieces.{space, newline}
+use Rattle.text_pieces.specs.Pieces.{zeroByte, nineByte, space, newline}
 use Rattle.scan.specs.declared.State.{State}
-use Rattle.scan.specs.Scan.{maxNumbers, failed, withDigit, numberEnded, lineFault, nextLine, lineEnded, step, someNumber, finished, keptIn}
+use Rattle.scan.specs.Scan.{maxNumbers, maxValue, failed, withDigit, numberEnded, lineFault, nextLine, lineEnded, step, someNumber, finished, keptIn}
 
 -- ---- the end of a line of a list
 
@@ -41,14 +41,14 @@ module _ (first count : ℕ) where
 module _ (s : State) where
   -- ---- a number
 
-  pub digit-large : (d : ℕ) → 4_294_967_295 < 10 * s .value + d → failed s 2 ≡ withDigit s d
+  pub digit-large : (d : ℕ) → maxValue < 10 * s .value + d → failed s 2 ≡ withDigit s d
   unfolding withDigit
-  digit-large d h = rw (lt-ltb 4_294_967_295 (10 * s .value + d) h)
+  digit-large d h = rw (lt-ltb maxValue (10 * s .value + d) h)
 
-  pub digit-more : (d : ℕ) → 10 * s .value + d ≤ 4_294_967_295
+  pub digit-more : (d : ℕ) → 10 * s .value + d ≤ maxValue
       → record { lined = s .lined; line = s .line; first = s .first; count = s .count; inside = true; value = 10 * s .value + d; fault = 0 } ≡ withDigit s d
   unfolding withDigit
-  digit-more d h = rw (le-ltb 4_294_967_295 (10 * s .value + d) h)
+  digit-more d h = rw (le-ltb maxValue (10 * s .value + d) h)
 
   pub ended-outside : not (s .inside) ≡ true → s ≡ numberEnded s
   unfolding numberEnded
@@ -95,17 +95,17 @@ module _ (s : State) where
       step-newline h = rw (eq-eqb (s .fault) 0 ok, ne-eqb byte space a, eq-eqb byte newline h)
 
       module _ (b : byte ≡ newline → ⊥) where
-        pub step-low : byte < 48 → failed s 1 ≡ step s byte
+        pub step-low : byte < zeroByte → failed s 1 ≡ step s byte
         unfolding step
-        step-low h = rw (eq-eqb (s .fault) 0 ok, ne-eqb byte space a, ne-eqb byte newline b, lt-ltb byte 48 h)
+        step-low h = rw (eq-eqb (s .fault) 0 ok, ne-eqb byte space a, ne-eqb byte newline b, lt-ltb byte zeroByte h)
 
-        pub step-high : 48 ≤ byte → 57 < byte → failed s 1 ≡ step s byte
+        pub step-high : zeroByte ≤ byte → nineByte < byte → failed s 1 ≡ step s byte
         unfolding step
-        step-high h l = rw (eq-eqb (s .fault) 0 ok, ne-eqb byte space a, ne-eqb byte newline b, le-ltb byte 48 h, lt-ltb 57 byte l)
+        step-high h l = rw (eq-eqb (s .fault) 0 ok, ne-eqb byte space a, ne-eqb byte newline b, le-ltb byte zeroByte h, lt-ltb nineByte byte l)
 
-        pub step-digit : 48 ≤ byte → byte ≤ 57 → withDigit s (byte - 48) ≡ step s byte
+        pub step-digit : zeroByte ≤ byte → byte ≤ nineByte → withDigit s (byte - zeroByte) ≡ step s byte
         unfolding step
-        step-digit h l = rw (eq-eqb (s .fault) 0 ok, ne-eqb byte space a, ne-eqb byte newline b, le-ltb byte 48 h, le-ltb 57 byte l)
+        step-digit h l = rw (eq-eqb (s .fault) 0 ok, ne-eqb byte space a, ne-eqb byte newline b, le-ltb byte zeroByte h, le-ltb nineByte byte l)
 
   -- ---- the end
 

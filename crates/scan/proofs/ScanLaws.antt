@@ -1,4 +1,5 @@
--- Reading a text byte by byte: the state and the places after each.
+-- Reading a text byte by byte: the state and the places after each, as the invariant `Scanning` of the loop, and what the whole
+-- text comes to.
 use Prim.Native.Nat.{ℕ, zero, suc, _+_, _≤_, _<_}
 use mathlib.Core.Bool.{Bool, true, false, cond}
 use mathlib.Core.List.{List, [], _∷_, _++_, append-assoc, append-nil}
@@ -14,7 +15,8 @@ use Rattle.buffers.proofs.FillLaws.{Filled, filled-none, filled-put, filled-siz
 use Rattle.scan.specs.declared.State.{State}
 use Rattle.scan.specs.declared.Scanned.{Scanned}
 use Rattle.scan.specs.declared.Scanned.the-variants.{Numbers, Faulty}
-use Rattle.scan.specs.Scan.{maxNumbers, textBytes, start, failed, numberEnded, lineFault, nextLine, lineEnded, step, someNumber, finished, kept, keptIn, after, ended, last, scannedNumbers, resultOf, scanned, storedOf, Counted, ScanAs, StateIn, ScannedTo}
+use Rattle.scan.specs.Scan.{maxNumbers, textBytes, start, failed, numberEnded, lineFault, nextLine, lineEnded, step, someNumber, finished}
+use Rattle.scan.specs.Scan.{kept, keptIn, after, ended, last, scannedNumbers, resultOf, scanned, storedOf, Counted, ScanAs, StateIn, ScannedTo}
 use Rattle.scan.proofs.StateLaws.{Moves, Fair, fair-in, step-moves, finish-moves}
 
 -- ---- runs of bytes strung together
@@ -49,7 +51,8 @@ module _ {l : ℕ} {s t : State} (m : Moves l 1 s t) where
       go true e = omega (arith, ltb-true (s .count) (t .count) e, m .high)
       go false e = omega (arith, ltb-false (s .count) (t .count) e, m .low)
 
-  pub kept-filled : {xs was now : List ℕ} → maxNumbers ≤ length was → s .count ≡ length xs → Filled xs was now → Filled (xs ++ kept s t) was (keptIn s t now)
+  pub kept-filled : {xs was now : List ℕ} → maxNumbers ≤ length was → s .count ≡ length xs → Filled xs was now
+      → Filled (xs ++ kept s t) was (keptIn s t now)
   unfolding kept keptIn
   kept-filled {xs} {was} {now} room size f = go (ltb (s .count) (t .count)) refl
     where
@@ -99,7 +102,8 @@ module _ {lined : Bool} {bs was : List ℕ} where
         let byte : ℕ = getD bs i 0 in
         let m : Moves 1 1 s t = rw e (step-moves s (w .fair) byte) in
         let one : take (i + 1) bs ≡ take i bs ++ (byte ∷ []) = rw (add-one i, take-suc bs i 0 b) in
-        let there : ended (start lined) (take (i + 1) bs) ≡ ended (start lined) (take i bs) ++ kept s t = rw (one, ended-one (start lined) (take i bs) byte, ← w .state, e) in
+        let more = ended-one (start lined) (take i bs) byte in
+        let there : ended (start lined) (take (i + 1) bs) ≡ ended (start lined) (take i bs) ++ kept s t = rw (one, more, ← w .state, e) in
         record {
           bound = omega arith;
           state = rw (one, after-one (start lined) (take i bs) byte, ← w .state) e;
@@ -149,7 +153,8 @@ finish-some-number : (s : State) → finished s .fault ≡ 0 → 0 < finished s 
 unfolding finished
 finish-some-number s = go (eqb (s .fault) 0) refl
   where
-    go : (b : Bool) → eqb (s .fault) 0 ≡ b → cond b (lineEnded (someNumber (numberEnded s))) s .fault ≡ 0 → 0 < cond b (lineEnded (someNumber (numberEnded s))) s .count
+    go : (b : Bool) → eqb (s .fault) 0 ≡ b → cond b (lineEnded (someNumber (numberEnded s))) s .fault ≡ 0
+        → 0 < cond b (lineEnded (someNumber (numberEnded s))) s .count
     go true e h = line-there (someNumber (numberEnded s)) (some-there (numberEnded s)) h
     go false e h = absurd (eqb-false (s .fault) 0 e h)
 

@@ -1,13 +1,13 @@
--- How far one byte, or the end of the text, moves the reading of it.
+-- How far one byte, or the end of the text, moves the reading of it: a line and a number at most, and never past the limits.
 use Prim.Native.Nat.{ℕ, _+_, _-_, _*_, _≤_}
 use mathlib.Core.Bool.{Bool, true, false, cond}
 use mathlib.Core.Path.{_≡_, refl}
 use native.Mathlib.Omega.{arith}
 use lib.Dec.{ltb, eqb}
 use borrow.Author.Tests.{ltb-true}
-use Rattle.text_pieces.specs.Pieces.{space, newline}
+use Rattle.text_pieces.specs.Pieces.{zeroByte, nineByte, space, newline}
 use Rattle.scan.specs.declared.State.{State}
-use Rattle.scan.specs.Scan.{maxNumbers, failed, withDigit, numberEnded, lineFault, lineEnded, step, someNumber, finished, StateIn}
+use Rattle.scan.specs.Scan.{maxNumbers, maxValue, failed, withDigit, numberEnded, lineFault, lineEnded, step, someNumber, finished, StateIn}
 
 -- at most l lines and k numbers further
 pub record Moves (l k : ℕ) (s t : State) : Type 0 where
@@ -53,7 +53,7 @@ module _ (s : State) (f : Fair s) where
   digit-moves : (d : ℕ) → Moves 0 0 s (withDigit s d)
   unfolding withDigit
   digit-moves d =
-      either (ltb 4_294_967_295 (10 * s .value + d)) (failed-moves 2)
+      either (ltb maxValue (10 * s .value + d)) (failed-moves 2)
       (record { line = omega arith; low = omega arith; high = omega arith; first = f .first; most = f .most })
 
   pub ended-moves : Moves 0 1 s (numberEnded s)
@@ -96,8 +96,8 @@ module _ (s : State) (f : Fair s) where
       either (eqb (s .fault) 0)
       (either (eqb byte space) (more 1 1 (omega arith) (omega arith) (ended-moves s f))
       (either (eqb byte newline) both-moves
-      (either (ltb byte 48) (far (failed-moves s f 1))
-      (either (ltb 57 byte) (far (failed-moves s f 1)) (far (digit-moves s f (byte - 48)))))))
+      (either (ltb byte zeroByte) (far (failed-moves s f 1))
+      (either (ltb nineByte byte) (far (failed-moves s f 1)) (far (digit-moves s f (byte - zeroByte)))))))
       (far (stay s f))
 
   pub finish-moves : Moves 1 1 s (finished s)

@@ -6,11 +6,12 @@ use mathlib.Core.Path.{_≡_, refl}
 use lib.Dec.{ltb, eqb}
 use lib.ListN.{length}
 use borrow.Author.Tests.{eqb-false}
-use Rattle.text_pieces.specs.Pieces.{space, newline}
+use Rattle.text_pieces.specs.Pieces.{zeroByte, nineByte, space, newline}
 use Rattle.scan.specs.declared.State.{State}
 use Rattle.scan.specs.declared.Scanned.{Scanned}
 use Rattle.scan.specs.declared.Scanned.the-variants.{Numbers, Faulty}
-use Rattle.scan.specs.Scan.{maxNumbers, textBytes, start, failed, withDigit, numberEnded, lineFault, lineEnded, step, someNumber, finished, after, last, scanned}
+use Rattle.scan.specs.Scan.{maxNumbers, maxValue, textBytes, start, failed, withDigit, numberEnded, lineFault, lineEnded, step}
+use Rattle.scan.specs.Scan.{someNumber, finished, after, last, scanned}
 
 -- neither 3 nor 4
 pub record NoLine (fault : ℕ) : Type 0 where
@@ -38,7 +39,7 @@ module _ (s : State) (u : Unlined s) where
   digit-unlined : (d : ℕ) → Unlined (withDigit s d)
   unfolding withDigit
   digit-unlined d =
-      either (ltb 4_294_967_295 (10 * s .value + d)) (failed-unlined 2 (no-line 2 refl refl))
+      either (ltb maxValue (10 * s .value + d)) (failed-unlined 2 (no-line 2 refl refl))
       (record { lined = u .lined; fault = none })
 
   ended-unlined : Unlined (numberEnded s)
@@ -70,7 +71,7 @@ module _ (s : State) (u : Unlined s) where
       either (eqb (s .fault) 0)
       (either (eqb byte space) (ended-unlined s u)
       (either (eqb byte newline) (line-unlined (numberEnded s) (ended-unlined s u))
-      (either (ltb byte 48) wrong (either (ltb 57 byte) wrong (digit-unlined s u (byte - 48))))))
+      (either (ltb byte zeroByte) wrong (either (ltb nineByte byte) wrong (digit-unlined s u (byte - zeroByte))))))
       u
 
   finish-unlined : Unlined (finished s)
@@ -96,7 +97,8 @@ scanned-unlined : (bs : List ℕ) → NoLine (faultOf (scanned false bs))
 unfolding scanned faultOf
 scanned-unlined bs = go (ltb textBytes (length bs)) (eqb (last false bs .fault) 0)
   where
-    go : (b b′ : Bool) → NoLine (faultOf (cond b (Faulty 7 1) (cond b′ (Numbers (last false bs .count)) (Faulty (last false bs .fault) (last false bs .line)))))
+    go : (b b′ : Bool)
+        → NoLine (faultOf (cond b (Faulty 7 1) (cond b′ (Numbers (last false bs .count)) (Faulty (last false bs .fault) (last false bs .line)))))
     go true b′ = no-line 7 refl refl
     go false true = none
     go false false = last-unlined bs .fault

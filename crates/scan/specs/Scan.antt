@@ -8,7 +8,7 @@ use lib.Dec.{ltb, eqb}
 use lib.ListN.{length, set}
 use Rattle.timing.specs.Limits.{maxPairs}
 use Rattle.buffers.specs.Over.{over}
-use Rattle.text_pieces.specs.Pieces.{space, newline}
+use Rattle.text_pieces.specs.Pieces.{zeroByte, nineByte, space, newline}
 use Rattle.scan.specs.declared.State.{State}
 use Rattle.scan.specs.declared.Scanned.{Scanned}
 use Rattle.scan.specs.declared.Scanned.the-variants.{Numbers, Faulty}
@@ -20,6 +20,10 @@ maxNumbers = 4 * maxPairs + 1
 -- the longest text
 abbrev pub textBytes : ℕ
 textBytes = 131_072
+
+-- the largest number that a text may hold: 32 bits
+abbrev pub maxValue : ℕ
+maxValue = 4_294_967_295
 
 -- ---- one byte
 
@@ -34,7 +38,7 @@ failed s fault =
 -- a digit more. 2: a number of more than 32 bits
 unfoldable pub withDigit : State → ℕ → State
 withDigit s d =
-    cond (ltb 4_294_967_295 (10 * s .value + d)) (failed s 2)
+    cond (ltb maxValue (10 * s .value + d)) (failed s 2)
     (record { lined = s .lined; line = s .line; first = s .first; count = s .count; inside = true; value = 10 * s .value + d; fault = 0 })
 
 -- the end of a number, if one has begun. 5: too many numbers
@@ -69,7 +73,7 @@ step s byte =
     cond (eqb (s .fault) 0)
     (cond (eqb byte space) (numberEnded s)
     (cond (eqb byte newline) (lineEnded (numberEnded s))
-    (cond (ltb byte 48) (failed s 1) (cond (ltb 57 byte) (failed s 1) (withDigit s (byte - 48))))))
+    (cond (ltb byte zeroByte) (failed s 1) (cond (ltb nineByte byte) (failed s 1) (withDigit s (byte - zeroByte))))))
     s
 
 -- a text without a number. 6

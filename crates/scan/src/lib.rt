@@ -3,11 +3,15 @@
 ghost use mathlib.Core.Path.{_≡_};
 ghost use Prim.Native.Nat.{_+_, _≤_, _<_};
 ghost use lib.ListN.{length};
-ghost use Rattle.scan.specs.Scan.{textBytes, maxNumbers, start, failed, withDigit, numberEnded, lineFault, lineEnded, step, finished, keptIn, StateIn, ScannedTo, ScanAs};
+ghost use Rattle.scan.specs.Scan.{textBytes, maxNumbers, start, failed, withDigit, numberEnded, lineFault, lineEnded, step, finished};
+ghost use Rattle.scan.specs.Scan.{keptIn, StateIn, ScannedTo, ScanAs};
 use timing::MAX_PAIRS;
 
 // The most numbers that a text may hold: the count of registers, and four for each pair.
 pub const MAX_NUMBERS: usize = 4 * MAX_PAIRS + 1;
+
+// The largest of them: 32 bits.
+const MAX_VALUE: u64 = 4_294_967_295;
 
 // The longest text.
 pub const TEXT_BYTES: usize = 131_072;
@@ -53,15 +57,9 @@ impl State {
     fn fail(self, fault: u32) -> State
         ensures { λ r. ⌜ r ≡ failed self fault ⌝ }
     {
-        State {
-            lined: self.lined,
-            line: self.line,
-            first: self.first,
-            count: self.count,
-            inside: self.inside,
-            value: self.value,
-            fault,
-        }
+        let mut next = self;
+        next.fault = fault;
+        next
     }
 
     // A digit more. 2: a number of more than 32 bits.
@@ -70,18 +68,14 @@ impl State {
         ensures { λ r. ⌜ r ≡ withDigit self d ⌝ }
     {
         let value = 10 * (self.value as u64) + d as u64;
-        if value > 4_294_967_295 {
+        if value > MAX_VALUE {
             return self.fail(2);
         }
-        State {
-            lined: self.lined,
-            line: self.line,
-            first: self.first,
-            count: self.count,
-            inside: true,
-            value: value as u32,
-            fault: 0,
-        }
+        let mut next = self;
+        next.inside = true;
+        next.value = value as u32;
+        next.fault = 0;
+        next
     }
 
     // The end of a number, if one has begun. 5: too many numbers.
@@ -94,15 +88,12 @@ impl State {
         if self.count >= MAX_NUMBERS {
             return self.fail(5);
         }
-        State {
-            lined: self.lined,
-            line: self.line,
-            first: self.first,
-            count: self.count + 1,
-            inside: false,
-            value: 0,
-            fault: 0,
-        }
+        let mut next = self;
+        next.count = self.count + 1;
+        next.inside = false;
+        next.value = 0;
+        next.fault = 0;
+        next
     }
 
     // The end of a line.
@@ -117,15 +108,11 @@ impl State {
         if fault != 0 {
             return self.fail(fault);
         }
-        State {
-            lined: self.lined,
-            line: self.line + 1,
-            first: self.count,
-            count: self.count,
-            inside: self.inside,
-            value: self.value,
-            fault: 0,
-        }
+        let mut next = self;
+        next.line = self.line + 1;
+        next.first = self.count;
+        next.fault = 0;
+        next
     }
 
     // A byte more. 1: neither a digit nor a space nor a newline.

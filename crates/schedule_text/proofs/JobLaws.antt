@@ -1,4 +1,4 @@
--- From what a call promises to the text that is stored.
+-- From what a call promises to the text that is stored: for the free schedule and for a split, a refusal and each result.
 use Prim.Native.Nat.{ℕ, _+_, _*_, _≤_}
 use mathlib.Core.List.{List, [], _∷_, _++_}
 use mathlib.Core.Path.{_≡_, _∙_}
@@ -18,8 +18,8 @@ use Rattle.split.specs.declared.Splitting.{Splitting}
 use Rattle.split.specs.declared.Splitting.the-variants.{Split, NoSplit, Refused as NotSplit}
 use Rattle.text_pieces.specs.Pieces.{Put, letters}
 use Rattle.text_pieces.proofs.PutLaws.{put-within}
-use Rattle.refusal_text.specs.PlainWords.{refusalLine}
-use Rattle.schedule_text.specs.JobText.{timingLine, timingLines, jobPlaces, freeLine, freeDone, splitDone}
+use Rattle.refusal_text.specs.PlainWords.{lineWidth, refusalLine}
+use Rattle.schedule_text.specs.JobText.{timingWidth, freeWidth, splitWidth, timingLine, timingLines, jobPlaces, freeLine, freeDone, splitDone}
 
 lines-over : (n k : ℕ) (xs : List ℕ) → timingLines n (over xs (zeros k)) ≡ timingLines n xs
 unfolding timingLines
@@ -38,7 +38,7 @@ module _ {ws now : List ℕ} {r : FreeAnswer} (a : FreeAs ws (zeros maxRegisters
   free-reply : freeReply r ≡ replyOf (freeOf ws)
   free-reply = rw (zeros-size maxRegisters) at (a .reply)
 
-  pub free-refused : {number place next : ℕ} {text text′ : List ℕ} → r ≡ Refused number place → Put 133 (refusalLine number place) text 0 text′ next
+  pub free-refused : {number place next : ℕ} {text text′ : List ℕ} → r ≡ Refused number place → Put lineWidth (refusalLine number place) text 0 text′ next
       → Put jobPlaces (told refusalLine (freeDone (registers ws)) (freeOf ws)) text 0 text′ next
   unfolding freeReply
   free-refused e put =
@@ -53,12 +53,14 @@ module _ {ws now : List ℕ} {r : FreeAnswer} (a : FreeAs ws (zeros maxRegisters
     unfolding freeing
     free-in = numbers-in ws (roomChecks (registers ws) maxRegisters) _ free-told .head
 
-    pub free-periods : {n next : ℕ} {text text′ : List ℕ} → n ≡ registers ws → Put (54 + 42 * n) (freeLine c f ++ timingLines n now) text 0 text′ next
+    pub free-periods : {n next : ℕ} {text text′ : List ℕ} → n ≡ registers ws
+        → Put (freeWidth + timingWidth * n) (freeLine c f ++ timingLines n now) text 0 text′ next
         → Put jobPlaces (told refusalLine (freeDone (registers ws)) (freeOf ws)) text 0 text′ next
     free-periods {n} h put =
         let few : n ≤ maxRegisters = omega (arith, free-in .most) in
         let stored : now ≡ bufferAfter (freeOf ws) (zeros maxRegisters) = rw (zeros-size maxRegisters) at (a .stored) in
-        rw (told-numbers refusalLine (freeDone (registers ws)) (zeros maxRegisters) (free-same (registers ws) maxRegisters) (freeOf ws) free-told, ← stored, ← h)
+        let same = free-same (registers ws) maxRegisters in
+        rw (told-numbers refusalLine (freeDone (registers ws)) (zeros maxRegisters) same (freeOf ws) free-told, ← stored, ← h)
         (put-within put (omega (arith, put .most)))
 
 -- ---- a split
@@ -74,7 +76,7 @@ module _ {ws now scratch′ : List ℕ} {t s : ℕ} {r : Splitting} (a : SplitAs
   split-reply : splitReply r ≡ replyOf (splitOf ws t s)
   split-reply = rw (zeros-size maxRegisters, zeros-size maxScratch) at (a .reply)
 
-  pub split-refused : {number place next : ℕ} {text text′ : List ℕ} → r ≡ NotSplit number place → Put 133 (refusalLine number place) text 0 text′ next
+  pub split-refused : {number place next : ℕ} {text text′ : List ℕ} → r ≡ NotSplit number place → Put lineWidth (refusalLine number place) text 0 text′ next
       → Put jobPlaces (told refusalLine (splitDone (registers ws)) (splitOf ws t s)) text 0 text′ next
   unfolding splitReply
   split-refused e put =
@@ -83,7 +85,8 @@ module _ {ws now scratch′ : List ℕ} {t s : ℕ} {r : Splitting} (a : SplitAs
   split-by : {xs : List ℕ} → numbers xs ≡ splitReply r → told refusalLine (splitDone (registers ws)) (splitOf ws t s) ≡ splitDone (registers ws) xs now
   split-by e =
       let stored : now ≡ bufferAfter (splitOf ws t s) (zeros maxRegisters) = rw (zeros-size maxRegisters, zeros-size maxScratch) at (a .stored) in
-      rw stored (told-numbers refusalLine (splitDone (registers ws)) (zeros maxRegisters) (split-same (registers ws) maxRegisters) (splitOf ws t s) (e ∙ split-reply))
+      let same = split-same (registers ws) maxRegisters in
+      rw stored (told-numbers refusalLine (splitDone (registers ws)) (zeros maxRegisters) same (splitOf ws t s) (e ∙ split-reply))
 
   pub split-none : {next : ℕ} {text text′ : List ℕ} → r ≡ NoSplit → Put 9 (letters "no split\n") text 0 text′ next
       → Put jobPlaces (told refusalLine (splitDone (registers ws)) (splitOf ws t s)) text 0 text′ next
@@ -99,7 +102,8 @@ module _ {ws now scratch′ : List ℕ} {t s : ℕ} {r : Splitting} (a : SplitAs
     unfolding splitting
     split-in = numbers-in ws (splitCallChecks (registers ws) (pairCount ws) t s maxRegisters maxScratch) _ (split-told ∙ split-reply) .head
 
-    pub split-found : {n next : ℕ} {text text′ : List ℕ} → n ≡ registers ws → Put (6 + 42 * n) (letters "split\n" ++ timingLines n now) text 0 text′ next
+    pub split-found : {n next : ℕ} {text text′ : List ℕ} → n ≡ registers ws
+        → Put (splitWidth + timingWidth * n) (letters "split\n" ++ timingLines n now) text 0 text′ next
         → Put jobPlaces (told refusalLine (splitDone (registers ws)) (splitOf ws t s)) text 0 text′ next
     split-found {n} h put =
         let few : n ≤ maxRegisters = omega (arith, split-in .most) in

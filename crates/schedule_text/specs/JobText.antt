@@ -10,8 +10,8 @@ use Rattle.refusals.specs.Reply.{told}
 use Rattle.list_format.specs.Lists.{registers}
 use Rattle.free_schedule.specs.FreeCall.{freeing}
 use Rattle.split.specs.Splitting.{splitting}
-use Rattle.text_pieces.specs.Pieces.{letters, number, named, space, newline}
-use Rattle.refusal_text.specs.PlainWords.{refusalLine}
+use Rattle.text_pieces.specs.Pieces.{letters, number, named, space, newline, numberWidth}
+use Rattle.refusal_text.specs.PlainWords.{lineWidth, refusalLine}
 use Rattle.list_bytes.specs.ListBytes.{listOf}
 
 -- a register and its timing
@@ -22,9 +22,23 @@ timingLine xs r = number r space ++ number (getD xs r 0) newline
 unfoldable pub timingLines : ℕ → List ℕ → List ℕ
 timingLines n xs = run (timingLine xs) n
 
--- places enough for any of these texts: 20 digits for each number
+-- ---- how long a text can be
+
+-- the line of a register
+abbrev pub timingWidth : ℕ
+timingWidth = 2 * numberWidth
+
+-- "common " and "free " with their numbers
+abbrev pub freeWidth : ℕ
+freeWidth = 7 + numberWidth + (5 + numberWidth)
+
+-- "split", as a line
+abbrev pub splitWidth : ℕ
+splitWidth = 6
+
+-- places enough for any of these texts: a line for each register, and before them the longest line there is
 abbrev pub jobPlaces : ℕ
-jobPlaces = 42 * maxRegisters + 133
+jobPlaces = timingWidth * maxRegisters + lineWidth
 
 -- ---- the free schedule
 

@@ -10,10 +10,13 @@ ghost use Rattle.list_format.specs.Lists.{registers};
 ghost use Rattle.refusal_text.specs.PlainWords.{refusalLine};
 ghost use Rattle.free_schedule.specs.FreeCall.{freeing};
 ghost use Rattle.split.specs.Splitting.{splitting};
-ghost use Rattle.schedule_text.specs.JobText.{timingLines, jobPlaces, freeLine, freeDone, freeText, splitDone, splitText};
+ghost use Rattle.schedule_text.specs.JobText.{timingWidth, freeWidth, splitWidth, jobPlaces, timingLines, freeLine, freeDone};
+ghost use Rattle.schedule_text.specs.JobText.{freeText, splitDone, splitText};
 use free_schedule::FreeAnswer;
 use list_bytes::MAX_WORDS;
+use refusal_text::LINE_WIDTH;
 use split::Splitting;
+use text_pieces::NUMBER_WIDTH;
 use text_pieces::put_bytes;
 use text_pieces::put_named;
 use text_pieces::put_number;
@@ -22,13 +25,16 @@ use timing::MAX_SCRATCH;
 
 const REGISTER_PLACES: usize = MAX_REGISTERS as usize;
 
-// Places enough for any text.
-pub const TEXT_PLACES: usize = 42 * REGISTER_PLACES + 133;
+// The most bytes of the line of a register.
+const TIMING_WIDTH: usize = 2 * NUMBER_WIDTH;
+
+// Places enough for any text: a line for each register, and before them the longest line there is.
+pub const TEXT_PLACES: usize = TIMING_WIDTH * REGISTER_PLACES + LINE_WIDTH;
 
 // A register and its timing.
 fn put_timing(text: &mut [u8], at: usize, r: usize, timing: u32) -> usize
-    requires { ⌜ at + 42 ≤ length (now text) ⌝ }
-    ensures { λ z. ⌜ Put 42 (number r space ++ number timing newline) (now (text .entry)) at (now (text .exit)) z ⌝ }
+    requires { ⌜ at + timingWidth ≤ length (now text) ⌝ }
+    ensures { λ z. ⌜ Put timingWidth (number r space ++ number timing newline) (now (text .entry)) at (now (text .exit)) z ⌝ }
 {
     let a = put_number(text, at, r as u64, b' ');
     put_number(text, a, timing as u64, b'\n')
@@ -36,8 +42,8 @@ fn put_timing(text: &mut [u8], at: usize, r: usize, timing: u32) -> usize
 
 // A line for each of n registers.
 fn put_timings(text: &mut [u8], at: usize, timings: &[u32], n: usize) -> usize
-    requires { ⌜ (n ≤ length (now timings)) × (at + 42 * n ≤ length (now text)) ⌝ }
-    ensures { λ z. ⌜ Put (42 * n) (timingLines n (now (timings .entry))) (now (text .entry)) at (now (text .exit)) z ⌝ }
+    requires { ⌜ (n ≤ length (now timings)) × (at + timingWidth * n ≤ length (now text)) ⌝ }
+    ensures { λ z. ⌜ Put (timingWidth * n) (timingLines n (now (timings .entry))) (now (text .entry)) at (now (text .exit)) z ⌝ }
 {
     let mut last = at;
     let mut r = 0;
@@ -50,8 +56,11 @@ fn put_timings(text: &mut [u8], at: usize, timings: &[u32], n: usize) -> usize
 
 // The two periods, and a line for each of n registers.
 fn put_free(text: &mut [u8], common: u32, free: u32, timings: &[u32], n: usize) -> usize
-    requires { ⌜ (n ≤ length (now timings)) × (54 + 42 * n ≤ length (now text)) ⌝ }
-    ensures { λ z. ⌜ Put (54 + 42 * n) (freeLine common free ++ timingLines n (now (timings .entry))) (now (text .entry)) 0 (now (text .exit)) z ⌝ }
+    requires { ⌜ (n ≤ length (now timings)) × (freeWidth + timingWidth * n ≤ length (now text)) ⌝ }
+    ensures { λ z. ⌜
+        Put (freeWidth + timingWidth * n) (freeLine common free ++ timingLines n (now (timings .entry)))
+        (now (text .entry)) 0 (now (text .exit)) z
+        ⌝ }
 {
     let a = put_named(text, 0, b"common ", common as u64, b' ');
     let b = put_named(text, a, b"free ", free as u64, b'\n');
@@ -61,7 +70,10 @@ fn put_free(text: &mut [u8], common: u32, free: u32, timings: &[u32], n: usize) 
 // The free schedule for a run of words.
 fn put_free_words(text: &mut [u8], words: &[u32]) -> usize
     requires { ⌜ jobPlaces ≤ length (now text) ⌝ }
-    ensures { λ z. ⌜ Put jobPlaces (told refusalLine (freeDone (registers (now (words .entry)))) (freeing (now (words .entry)) maxRegisters)) (now (text .entry)) 0 (now (text .exit)) z ⌝ }
+    ensures { λ z. ⌜
+        Put jobPlaces (told refusalLine (freeDone (registers (now (words .entry)))) (freeing (now (words .entry)) maxRegisters))
+        (now (text .entry)) 0 (now (text .exit)) z
+        ⌝ }
 {
     let mut answer = [0u32; REGISTER_PLACES];
     match free_schedule::free(words, &mut answer) {
@@ -85,8 +97,11 @@ pub fn free_text(bytes: &[u8], text: &mut [u8; TEXT_PLACES]) -> usize
 
 // `split`, and a line for each of n registers.
 fn put_split(text: &mut [u8], timings: &[u32], n: usize) -> usize
-    requires { ⌜ (n ≤ length (now timings)) × (6 + 42 * n ≤ length (now text)) ⌝ }
-    ensures { λ z. ⌜ Put (6 + 42 * n) (letters "split\n" ++ timingLines n (now (timings .entry))) (now (text .entry)) 0 (now (text .exit)) z ⌝ }
+    requires { ⌜ (n ≤ length (now timings)) × (splitWidth + timingWidth * n ≤ length (now text)) ⌝ }
+    ensures { λ z. ⌜
+        Put (splitWidth + timingWidth * n) (letters "split\n" ++ timingLines n (now (timings .entry)))
+        (now (text .entry)) 0 (now (text .exit)) z
+        ⌝ }
 {
     let at = put_bytes(text, 0, b"split\n");
     put_timings(text, at, timings, n)
@@ -95,7 +110,11 @@ fn put_split(text: &mut [u8], timings: &[u32], n: usize) -> usize
 // The split for a run of words.
 fn put_split_words(text: &mut [u8], words: &[u32], period: u32, offset: u32) -> usize
     requires { ⌜ jobPlaces ≤ length (now text) ⌝ }
-    ensures { λ z. ⌜ Put jobPlaces (told refusalLine (splitDone (registers (now (words .entry)))) (splitting (now (words .entry)) period offset maxRegisters maxScratch)) (now (text .entry)) 0 (now (text .exit)) z ⌝ }
+    ensures { λ z. ⌜
+        Put jobPlaces
+        (told refusalLine (splitDone (registers (now (words .entry)))) (splitting (now (words .entry)) period offset maxRegisters maxScratch))
+        (now (text .entry)) 0 (now (text .exit)) z
+        ⌝ }
 {
     let mut answer = [0u32; REGISTER_PLACES];
     let mut scratch = [0u32; MAX_SCRATCH];

@@ -1,4 +1,6 @@
 -- What the marks say of the first split, once no broken choice forces more or a register is forced both ways.
+-- Closed marks give a split that works: late where marked late, all others early. Every split that works agrees with the
+-- marks, so it is late there too: the split of the marks is the pointwise least, and so the first.
 use mathlib.Core.Path.{_≡_, refl, ap, sym, _∙_, subst}
 use mathlib.Core.Bool.{Bool, true, false, not, false≢true}
 use mathlib.Core.List.{List, [], _∷_}
@@ -14,7 +16,8 @@ use Rattle.split_laws.specs.declared.Change.{Change}
 use Rattle.split_laws.specs.declared.Change.the-variants.{Settled}
 use Rattle.split_laws.specs.Split.{nothing, found, timeOf, timings, meets, broken, works, splits, firstOf, firstSplit}
 use Rattle.split_laws.specs.Table.{mark, late, isLate, brokenRow, flag}
-use Rattle.split_laws.specs.Marks.{choice, Agrees, splitOf, MarkStep, joined, Avoids, Applied, Seeded, Flagged, keeps, Keeps, RowsClosed, MarksClosed, Settles}
+use Rattle.split_laws.specs.Marks.{choice, Agrees, splitOf, MarkStep, joined, Avoids, Applied, Seeded}
+use Rattle.split_laws.specs.Marks.{Flagged, keeps, Keeps, RowsClosed, MarksClosed, Settles}
 use Rattle.split_laws.proofs.FirstLaws.{NoLater, none-first, least-first}
 use Rattle.split_laws.proofs.TableLaws.{late-launch, flag-one}
 use Rattle.split_laws.proofs.MarkLaws.{step-none, step-for, step-with, step-then}
@@ -99,9 +102,12 @@ pub getD-splitOf : (M : List ℕ) (i : ℕ) → getD (splitOf M) i false ≡ isL
 unfolding splitOf
 getD-splitOf M i = List·getD-map isLate M i 0
 
--- nothing more is forced: then the pair keeps its rules
+-- Nothing more is forced: then the pair keeps its rules, also where one end or both have no mark and are early for that.
+-- A broken early, early has the capture marked late; a broken choice with a late end has the other end marked against it.
 pub closed-keeps : (t s : ℕ) (p : Pair) (M : List ℕ) → MarksClosed t s p M → keeps t s p (splitOf M) ≡ true
-closed-keeps t s p M h = rw (getD-splitOf M (p .launch), getD-splitOf M (p .capture)) (go (isLate x) (isLate y) (meets t s p (isLate x) (isLate y)) refl refl refl)
+closed-keeps t s p M h =
+    rw (getD-splitOf M (p .launch), getD-splitOf M (p .capture))
+    (go (isLate x) (isLate y) (meets t s p (isLate x) (isLate y)) refl refl refl)
   where
     x : ℕ
     x = getD M (p .launch) 0
@@ -139,7 +145,8 @@ module _ (n t s : ℕ) (ps : List Pair) where
   unfolding firstSplit
   first-none h = none-first n (works t s ps) (λ c l w. h c w)
 
-  -- marks that force nothing more, and with which every working split agrees
+  -- marks that force nothing more, and with which every working split agrees: their split works (`closed-keeps`) and is
+  -- the pointwise least that does (`split-below`)
   pub first-found : (M : List ℕ) → length M ≡ n → Each (λ p. MarksClosed t s p M) ps → ((c : List Bool) → works t s ps c ≡ true → Agrees c M)
       → firstSplit n t s ps ≡ found (splitOf M)
   unfolding firstSplit

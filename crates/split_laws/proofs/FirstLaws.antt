@@ -33,14 +33,16 @@ unfolding firstOf
 first-append f [] r = refl
 first-append f (c ∷ l) r = ap (orElse (f c) c) (first-append f l r) ∙ orElse-or (f c) c (firstOf f l) (firstOf f r)
 
-first-map : (f : List Bool → Bool) (b : Bool) (l : List (List Bool)) → firstOf f (map (λ (c : List Bool). b ∷ c) l) ≡ push b (firstOf (λ (c : List Bool). f (b ∷ c)) l)
+first-map : (f : List Bool → Bool) (b : Bool) (l : List (List Bool))
+    → firstOf f (map (λ (c : List Bool). b ∷ c) l) ≡ push b (firstOf (λ (c : List Bool). f (b ∷ c)) l)
 unfolding firstOf
 first-map f b [] = refl
 first-map f b (c ∷ l) = ap (orElse (f (b ∷ c)) (b ∷ c)) (first-map f b l) ∙ orElse-push (f (b ∷ c)) b c (firstOf (λ (c : List Bool). f (b ∷ c)) l)
 
 -- the splits with register 0 early come first
 first-splits : (f : List Bool → Bool) (n : ℕ) →
-    firstOf f (splits (suc n)) ≡ or (push false (firstOf (λ (c : List Bool). f (false ∷ c)) (splits n))) (push true (firstOf (λ (c : List Bool). f (true ∷ c)) (splits n)))
+    firstOf f (splits (suc n))
+    ≡ or (push false (firstOf (λ (c : List Bool). f (false ∷ c)) (splits n))) (push true (firstOf (λ (c : List Bool). f (true ∷ c)) (splits n)))
 unfolding splits
 first-splits f n =
     first-append f (map (λ (c : List Bool). false ∷ c) (splits n)) (map (λ (c : List Bool). true ∷ c) (splits n))
@@ -61,8 +63,11 @@ none-first (suc n) f h =
       none-first n (λ (c : List Bool). f (true ∷ c)) (λ c l e. h (true ∷ c) (ap suc l) e),
     )
 
--- c passes, and each split that passes is late where c is
-pub least-first : (c : List Bool) (f : List Bool → Bool) → f c ≡ true → ((d : List Bool) → length d ≡ length c → f d ≡ true → NoLater c d) → firstOf f (splits (length c)) ≡ found c
+-- c passes, and each split that passes is late where c is: then c is the first that passes. Register by register: where c
+-- is early, the splits that are early there come first, and the rest of c is first among their rests; where c is late,
+-- none that is early there passes, and the rest of c is first among the rests of those that are late.
+pub least-first : (c : List Bool) (f : List Bool → Bool) → f c ≡ true → ((d : List Bool) → length d ≡ length c → f d ≡ true → NoLater c d)
+    → firstOf f (splits (length c)) ≡ found c
 unfolding splits firstOf
 least-first [] f e h = ap (λ (t : Bool). orElse t [] nothing) e
 least-first (false ∷ c) f e h =

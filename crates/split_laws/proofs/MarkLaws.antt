@@ -1,4 +1,6 @@
 -- Laws of the marks: steps one after the other, and what forcing, following and applying a row come to.
+-- Every step keeps each split that has the property and agreed with the marks; a step that changes anything sets a mark,
+-- so that fewer registers are without (`unset` falls); a clash leaves no such split.
 use mathlib.Core.Path.{_≡_, refl, sym, _∙_, subst, subst⁻¹}
 use mathlib.Core.Bool.{Bool, true, false}
 use mathlib.Core.List.{List, [], _∷_}
@@ -65,7 +67,8 @@ step-as {P} {Q} {C} {D} {M} {M′} {o} p d h = record {
     go Changed h = h
     go Clash h = λ c q a. h c (p c q a) a
 
-pub step-for : {P Q : List Bool → Type 0} {C : List ℕ → Type 0} {M M′ : List ℕ} {o : Change} → ((c : List Bool) → Q c → P c) → MarkStep P C M M′ o → MarkStep Q C M M′ o
+pub step-for : {P Q : List Bool → Type 0} {C : List ℕ → Type 0} {M M′ : List ℕ} {o : Change} → ((c : List Bool) → Q c → P c)
+    → MarkStep P C M M′ o → MarkStep Q C M M′ o
 step-for p h = step-as (λ c q a. p c q) (λ d. d) h
 
 pub step-with : {P : List Bool → Type 0} {C D : List ℕ → Type 0} {M M′ : List ℕ} {o : Change} → (C M → D M) → MarkStep P C M M′ o → MarkStep P D M M′ o
@@ -122,15 +125,21 @@ other c i v w e lo hi n = omega (arith, choice-range c i)
 pub applied-not : (a b k f : ℕ) (M : List ℕ) → (f ≡ 1 → ⊥) → Applied a b k f M M Settled
 applied-not a b k f M n = step-none M (λ e. absurd (n e))
 
--- both halves of row k, one after the other
+-- both halves of row k, one after the other: a split that avoids the row's choice and makes one end of it makes the
+-- opposite of the other end
 pub applied : {a b k f : ℕ} {r : Row} {M M′ M″ : List ℕ} {o o′ o″ : Change} → k < 4 → f ≡ 1 → RowIs k r → o″ ≡ joined o o′ →
     Followed a (r .launch) b (r .«forced_capture») M M′ o → Followed b (r .capture) a (r .«forced_launch») M′ M″ o′ → Applied a b k f M M″ o″
 applied {a} {b} {k} {f} {r} l e1 is e h h′ =
-    let one = step-for {Q = Avoids a b k} (λ c q x. other c b (rowCapture k) (r .«forced_capture») (is .forced-capture) (omega arith) (omega arith) (q (x ∙ is .launch-is))) h in
-    let two = step-for {Q = Avoids a b k} (λ c q x. other c a (rowLaunch k) (r .«forced_launch») (is .forced-launch) (omega arith) (omega arith) (λ z. q z (x ∙ is .capture-is))) h′ in
     rw e
     (step-as (λ c q g. q e1)
-    (λ x _. (λ z. rw (x .0 (z ∙ sym (is .launch-is))) (is .forced-capture), λ z. rw (x .1 (z ∙ sym (is .capture-is))) (is .forced-launch))) (step-then one two))
+    (λ x _. (λ z. rw (x .0 (z ∙ sym (is .launch-is))) (is .forced-capture), λ z. rw (x .1 (z ∙ sym (is .capture-is))) (is .forced-launch)))
+    (step-then (step-for ahead h) (step-for back h′)))
+  where
+    ahead : (c : List Bool) → Avoids a b k c → choice c a ≡ r .launch → choice c b ≡ r .«forced_capture»
+    ahead c q x = other c b (rowCapture k) (r .«forced_capture») (is .forced-capture) (omega arith) (omega arith) (q (x ∙ is .launch-is))
+
+    back : (c : List Bool) → Avoids a b k c → choice c b ≡ r .capture → choice c a ≡ r .«forced_launch»
+    back c q x = other c a (rowLaunch k) (r .«forced_launch») (is .forced-launch) (omega arith) (omega arith) (λ z. q z (x ∙ is .capture-is))
 
 pub seeded-not : (b f : ℕ) (M : List ℕ) → (f ≡ 1 → ⊥) → Seeded b f M M Settled
 seeded-not b f M n = step-none M (λ e. absurd (n e))

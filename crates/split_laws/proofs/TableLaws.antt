@@ -1,4 +1,5 @@
 -- The table's rule, proved once over all of its rows, and what it says of a broken choice.
+-- The table is Kohira and Takahashi 2012, table 2: a broken choice of two ends as two implications, one from each end.
 use mathlib.Core.Path.{_≡_, refl}
 use mathlib.Core.Bool.{Bool, true, false, not}
 use Prim.Native.Nat.{ℕ, _+_, _-_, _<_}
@@ -51,6 +52,6 @@ module _ (t s : ℕ) (p : Pair) where
       go true e = refl
 
   -- the flag of row k, from the times of its choices
-  pub flag-is : (k : ℕ) {r : Row} → RowIs k r → {a b : ℕ} → a ≡ timeOf s (isLate (r .launch)) → b ≡ timeOf s (isLate (r .capture)) → {m : Bool} → pairMet p t a b ≡ m
-      → flag (not m) ≡ flagAt t s p k
+  pub flag-is : (k : ℕ) {r : Row} → RowIs k r → {a b : ℕ} → a ≡ timeOf s (isLate (r .launch)) → b ≡ timeOf s (isLate (r .capture))
+      → {m : Bool} → pairMet p t a b ≡ m → flag (not m) ≡ flagAt t s p k
   flag-is k is ea eb e = rw (← is .launch-is, ← is .capture-is, ← ea, ← eb, e)

@@ -8,7 +8,7 @@ use native.Mathlib.Omega.{arith}
 use lib.Dec.{ltb}
 use lib.ListN.{length, length-append}
 use borrow.Author.Tests.{ltb-false, lt-ltb, le-ltb}
-use Rattle.text_pieces.specs.Pieces.{digit, decimalIn, decimal, Put}
+use Rattle.text_pieces.specs.Pieces.{digit, decimalIn, decimal, maxDigits, Put}
 use Rattle.text_pieces.proofs.PutLaws.{put-within, put-then}
 
 -- more digits than are needed change nothing
@@ -51,11 +51,11 @@ decimal-few k n h = in-few (suc n) k n h
 -- ---- a 64-bit number stored digit by digit
 
 module _ {n at next : ℕ} {was now : List ℕ} where
-  pub put-first : n < 10 → Put 1 (digit n ∷ []) was at now next → Put 20 (decimal n) was at now next
+  pub put-first : n < 10 → Put 1 (digit n ∷ []) was at now next → Put maxDigits (decimal n) was at now next
   put-first h p = rw (decimal-one n h) (put-within p (omega arith))
 
-  pub put-last : {mid : List ℕ} {last : ℕ} → 10 ≤ n → n < 2 ^ 64 → Put 20 (decimal (n / 10)) was at mid last → Put 1 (digit (n % 10) ∷ []) mid last now next
-      → Put 20 (decimal n) was at now next
+  pub put-last : {mid : List ℕ} {last : ℕ} → 10 ≤ n → n < 2 ^ 64 → Put maxDigits (decimal (n / 10)) was at mid last
+      → Put 1 (digit (n % 10) ∷ []) mid last now next → Put maxDigits (decimal n) was at now next
   put-last {mid} {last} h fits p q =
-      let few : length (decimal n) ≤ 20 = decimal-few 19 n (omega arith) in
+      let few : length (decimal n) ≤ maxDigits = decimal-few 19 n (omega arith) in
       rw (decimal-more n h) (put-within (put-then p q) (rw (decimal-more n h) at few))

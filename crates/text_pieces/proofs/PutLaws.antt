@@ -54,7 +54,8 @@ module _ {w : ℕ} {p was now : List ℕ} {at next : ℕ} (a : Put w p was at no
   put-within h = record { most = h; room = a .room; after = a .after; is = a .is }
 
 -- the piece that f has for y serves for every x that is y
-pub put-as : {A : Type 0} (f : A → List ℕ) (v : ℕ) {x y : A} {w at next : ℕ} {was now : List ℕ} → x ≡ y → Put w (f y) was at now next → w ≤ v → Put v (f x) was at now next
+pub put-as : {A : Type 0} (f : A → List ℕ) (v : ℕ) {x y : A} {w at next : ℕ} {was now : List ℕ} → x ≡ y → Put w (f y) was at now next → w ≤ v
+    → Put v (f x) was at now next
 put-as f v e put h = rw e (put-within put (omega (arith, put .most)))
 
 -- ---- a loop that stores piece after piece, each of at most w bytes
@@ -94,7 +95,8 @@ unfolding run
 bytes-front bytes zero h = refl
 bytes-front bytes (suc k) h = rw (bytes-front bytes k (omega arith), take-suc bytes k 0 h)
 
-pub bytes-end : {bytes was now : List ℕ} {at next k : ℕ} → Listing 1 (byteOf bytes) (length bytes) was at now next k → length bytes ≤ k → Put (length bytes) bytes was at now next
+pub bytes-end : {bytes was now : List ℕ} {at next k : ℕ} → Listing 1 (byteOf bytes) (length bytes) was at now next k → length bytes ≤ k
+    → Put (length bytes) bytes was at now next
 bytes-end {bytes} l h =
     put-within (rw (bytes-front bytes (length bytes) (omega arith), take-length bytes) at (listing-end l h)) (omega arith)
 

@@ -14,9 +14,15 @@ abbrev pub letters : String → List ℕ
 letters ended = []
 letters (c then s) = code c ∷ letters s
 
--- the byte of a digit
+-- the byte of a digit, from that of 0 to that of 9
+abbrev pub zeroByte : ℕ
+zeroByte = 48
+
+abbrev pub nineByte : ℕ
+nineByte = 57
+
 abbrev pub digit : ℕ → ℕ
-digit d = 48 + d
+digit d = zeroByte + d
 
 -- n in decimal, in at most k digits
 unfoldable pub decimalIn : ℕ → ℕ → List ℕ
@@ -46,6 +52,22 @@ newline = 10
 -- the number and the place of a refusal, and the byte that ends them
 unfoldable pub refusedAt : ℕ → ℕ → ℕ → List ℕ
 refusedAt number place end = named (letters "refused ") number space ++ named (letters "at ") place end
+
+-- ---- how long pieces can be
+
+-- the digits of a number of 64 bits
+abbrev pub maxDigits : ℕ
+maxDigits = 20
+
+-- a number, and the byte that ends it
+abbrev pub numberWidth : ℕ
+numberWidth = maxDigits + 1
+
+-- "refused " and "at " with their numbers
+abbrev pub refusedWidth : ℕ
+refusedWidth = 8 + numberWidth + (3 + numberWidth)
+
+-- ---- a piece of text stored
 
 -- a piece of text of at most w bytes was stored from `at` on, in a buffer that held `was` and holds `now`; the place after it is `next`
 pub record Put (w : ℕ) (piece was : List ℕ) (at : ℕ) (now : List ℕ) (next : ℕ) : Type 0 where

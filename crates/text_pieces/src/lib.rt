@@ -4,7 +4,16 @@
 ghost use mathlib.Core.List.{[], _∷_};
 ghost use Prim.Native.Nat.{_+_, _≤_, _<_};
 ghost use lib.ListN.{length};
-ghost use Rattle.text_pieces.specs.Pieces.{digit, decimal, number, named, refusedAt, Put};
+ghost use Rattle.text_pieces.specs.Pieces.{digit, decimal, number, named, refusedAt, maxDigits, numberWidth, refusedWidth, Put};
+
+// The most digits of a number of 64 bits.
+const MAX_DIGITS: usize = 20;
+
+// The most bytes of a number and the byte that ends it.
+pub const NUMBER_WIDTH: usize = MAX_DIGITS + 1;
+
+// The most bytes of `refused ` and `at ` with their numbers.
+pub const REFUSED_WIDTH: usize = 8 + NUMBER_WIDTH + (3 + NUMBER_WIDTH);
 
 fn put_byte(text: &mut [u8], at: usize, byte: u8) -> usize
     requires { ⌜ at < length (now text) ⌝ }
@@ -18,13 +27,13 @@ fn put_digit(text: &mut [u8], at: usize, d: u64) -> usize
     requires { ⌜ (d < 10) × (at < length (now text)) ⌝ }
     ensures { λ r. ⌜ Put 1 (digit d ∷ []) (now (text .entry)) at (now (text .exit)) r ⌝ }
 {
-    put_byte(text, at, 48 + d as u8)
+    put_byte(text, at, b'0' + d as u8)
 }
 
 // A number in decimal.
 fn put_decimal(text: &mut [u8], at: usize, n: u64) -> usize
-    requires { ⌜ at + 20 ≤ length (now text) ⌝ }
-    ensures { λ r. ⌜ Put 20 (decimal n) (now (text .entry)) at (now (text .exit)) r ⌝ }
+    requires { ⌜ at + maxDigits ≤ length (now text) ⌝ }
+    ensures { λ r. ⌜ Put maxDigits (decimal n) (now (text .entry)) at (now (text .exit)) r ⌝ }
 {
     if n < 10 {
         return put_digit(text, at, n);
@@ -35,8 +44,8 @@ fn put_decimal(text: &mut [u8], at: usize, n: u64) -> usize
 
 // A number, and the byte that ends it.
 pub fn put_number(text: &mut [u8], at: usize, n: u64, end: u8) -> usize
-    requires { ⌜ at + 21 ≤ length (now text) ⌝ }
-    ensures { λ r. ⌜ Put 21 (number n end) (now (text .entry)) at (now (text .exit)) r ⌝ }
+    requires { ⌜ at + numberWidth ≤ length (now text) ⌝ }
+    ensures { λ r. ⌜ Put numberWidth (number n end) (now (text .entry)) at (now (text .exit)) r ⌝ }
 {
     let last = put_decimal(text, at, n);
     put_byte(text, last, end)
@@ -57,8 +66,8 @@ pub fn put_bytes(text: &mut [u8], at: usize, bytes: &[u8]) -> usize
 
 // A name, its number, and the byte that ends it.
 pub fn put_named(text: &mut [u8], at: usize, name: &[u8], n: u64, end: u8) -> usize
-    requires { ⌜ at + length (now name) + 21 ≤ length (now text) ⌝ }
-    ensures { λ r. ⌜ Put (length (now (name .entry)) + 21) (named (now (name .entry)) n end) (now (text .entry)) at (now (text .exit)) r ⌝ }
+    requires { ⌜ at + length (now name) + numberWidth ≤ length (now text) ⌝ }
+    ensures { λ r. ⌜ Put (length (now (name .entry)) + numberWidth) (named (now (name .entry)) n end) (now (text .entry)) at (now (text .exit)) r ⌝ }
 {
     let last = put_bytes(text, at, name);
     put_number(text, last, n, end)
@@ -66,8 +75,8 @@ pub fn put_named(text: &mut [u8], at: usize, name: &[u8], n: u64, end: u8) -> us
 
 // The number and the place of a refusal, and the byte that ends them, from the first place on.
 pub fn put_refused(text: &mut [u8], number: u32, place: usize, end: u8) -> usize
-    requires { ⌜ 53 ≤ length (now text) ⌝ }
-    ensures { λ r. ⌜ Put 53 (refusedAt number place end) (now (text .entry)) 0 (now (text .exit)) r ⌝ }
+    requires { ⌜ refusedWidth ≤ length (now text) ⌝ }
+    ensures { λ r. ⌜ Put refusedWidth (refusedAt number place end) (now (text .entry)) 0 (now (text .exit)) r ⌝ }
 {
     let at = put_named(text, 0, b"refused ", number as u64, b' ');
     put_named(text, at, b"at ", place as u64, end)

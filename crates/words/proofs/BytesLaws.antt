@@ -6,33 +6,36 @@ use native.Mathlib.Nat.{one-mul, div-one, div-add-mod', div-div-eq-div-mul}
 use native.Mathlib.Omega.{arith}
 use lib.ListN.{length, getD, take, drop}
 use Rattle.buffers.proofs.RunLaws.{run-length, run-at, run-is, take-stretch}
-use Rattle.words.specs.Word.{field}
-use Rattle.words.specs.Bytes.{bytesOf, fromBytes, wordAt, toWords, toBytes}
+use Rattle.words.specs.Word.{wordBits}
+use Rattle.words.specs.Bytes.{byteBits, byteAt, bytesOf, fromBytes, wordAt, toWords, toBytes}
 
 -- one word and its four bytes
-word-of-bytes : (w : ℕ) → w < 2 ^ 32 → fromBytes (field 0 8 w) (field 8 8 w) (field 16 8 w) (field 24 8 w) ≡ w
+word-of-bytes : (w : ℕ) → w < 2 ^ wordBits → fromBytes (byteAt 0 w) (byteAt 1 w) (byteAt 2 w) (byteAt 3 w) ≡ w
 word-of-bytes w h =
-    let a : ℕ = w / 2 ^ 8 in
-    let b : ℕ = a / 2 ^ 8 in
-    let c : ℕ = b / 2 ^ 8 in
-    let b-is : w / 2 ^ 16 ≡ b = sym (div-div-eq-div-mul w (2 ^ 8) (2 ^ 8)) in
-    let c-is : w / 2 ^ 24 ≡ c = sym (div-div-eq-div-mul w (2 ^ 16) (2 ^ 8)) ∙ ap (λ x. x / 2 ^ 8) b-is in
-    rw (div-one, b-is, c-is) (sum w a b c (w % 2 ^ 8) (a % 2 ^ 8) (b % 2 ^ 8) (c % 2 ^ 8) (div-add-mod' w (2 ^ 8)) (div-add-mod' a (2 ^ 8)) (div-add-mod' b (2 ^ 8)) (omega arith))
+    let a : ℕ = w / 2 ^ byteBits in
+    let b : ℕ = a / 2 ^ byteBits in
+    let c : ℕ = b / 2 ^ byteBits in
+    let b-is : w / 2 ^ (2 * byteBits) ≡ b = sym (div-div-eq-div-mul w (2 ^ byteBits) (2 ^ byteBits)) in
+    let c-is : w / 2 ^ (3 * byteBits) ≡ c = sym (div-div-eq-div-mul w (2 ^ (2 * byteBits)) (2 ^ byteBits)) ∙ ap (λ x. x / 2 ^ byteBits) b-is in
+    rw (div-one, b-is, c-is)
+    (sum w a b c (w % 2 ^ byteBits) (a % 2 ^ byteBits) (b % 2 ^ byteBits) (c % 2 ^ byteBits)
+    (div-add-mod' w (2 ^ byteBits)) (div-add-mod' a (2 ^ byteBits)) (div-add-mod' b (2 ^ byteBits)) (omega arith))
   where
-    sum : (w a b c r s t u : ℕ) → a * 2 ^ 8 + r ≡ w → b * 2 ^ 8 + s ≡ a → c * 2 ^ 8 + t ≡ b → u ≡ c → r + s * 2 ^ 8 + t * 2 ^ 16 + u * 2 ^ 24 ≡ w
+    sum : (w a b c r s t u : ℕ) → a * 2 ^ byteBits + r ≡ w → b * 2 ^ byteBits + s ≡ a → c * 2 ^ byteBits + t ≡ b → u ≡ c
+        → r + s * 2 ^ byteBits + t * 2 ^ (2 * byteBits) + u * 2 ^ (3 * byteBits) ≡ w
     sum w a b c r s t u d e f g = omega arith
 
-module _ (a b c d : ℕ) (ha : a < 2 ^ 8) (hb : b < 2 ^ 8) (hc : c < 2 ^ 8) (hd : d < 2 ^ 8) where
-  byte-0 : field 0 8 (fromBytes a b c d) ≡ a
+module _ (a b c d : ℕ) (ha : a < 2 ^ byteBits) (hb : b < 2 ^ byteBits) (hc : c < 2 ^ byteBits) (hd : d < 2 ^ byteBits) where
+  byte-0 : byteAt 0 (fromBytes a b c d) ≡ a
   byte-0 = omega arith
 
-  byte-1 : field 8 8 (fromBytes a b c d) ≡ b
+  byte-1 : byteAt 1 (fromBytes a b c d) ≡ b
   byte-1 = omega arith
 
-  byte-2 : field 16 8 (fromBytes a b c d) ≡ c
+  byte-2 : byteAt 2 (fromBytes a b c d) ≡ c
   byte-2 = omega arith
 
-  byte-3 : field 24 8 (fromBytes a b c d) ≡ d
+  byte-3 : byteAt 3 (fromBytes a b c d) ≡ d
   byte-3 = omega arith
 
   bytes-of-word : bytesOf (fromBytes a b c d) ≡ a ∷ b ∷ c ∷ d ∷ []
@@ -46,7 +49,7 @@ pub bytes-size : (ws : List ℕ) (k : ℕ) → length (toBytes ws k) ≡ 4 * k
 bytes-size ws k = run-length (λ i. bytesOf (getD ws i 0)) 4 (λ i. refl) k
 
 -- all words
-pub words-back : (ws : List ℕ) → ((k : ℕ) → getD ws k 0 < 2 ^ 32) → toWords (toBytes ws (length ws)) (length ws) ≡ ws
+pub words-back : (ws : List ℕ) → ((k : ℕ) → getD ws k 0 < 2 ^ wordBits) → toWords (toBytes ws (length ws)) (length ws) ≡ ws
 words-back ws fits = run-is (λ k. wordAt (toBytes ws (length ws)) k ∷ []) 1 (λ k. refl) ws (length ws) each (omega arith)
   where
     byte : (k : ℕ) → k < length ws → (j : ℕ) → j < 4 → getD (toBytes ws (length ws)) (4 * k + j) 0 ≡ getD (bytesOf (getD ws k 0)) j 0
@@ -68,7 +71,7 @@ words-back ws fits = run-is (λ k. wordAt (toBytes ws (length ws)) k ∷ []) 1 (
         )
 
 -- all bytes, four for each word
-pub bytes-back : (bs : List ℕ) (m : ℕ) → length bs ≡ 4 * m → ((i : ℕ) → getD bs i 0 < 2 ^ 8) → toBytes (toWords bs m) m ≡ bs
+pub bytes-back : (bs : List ℕ) (m : ℕ) → length bs ≡ 4 * m → ((i : ℕ) → getD bs i 0 < 2 ^ byteBits) → toBytes (toWords bs m) m ≡ bs
 bytes-back bs m size fits = run-is (λ k. bytesOf (getD (toWords bs m) k 0)) 4 (λ k. refl) bs m each size
   where
     word : (k : ℕ) → k < m → getD (toWords bs m) k 0 ≡ wordAt bs k

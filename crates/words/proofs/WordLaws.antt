@@ -6,14 +6,15 @@ use native.Mathlib.Nat.{le-of-suc-le-suc, not-suc-le-zero, mod-add-mod}
 use native.Mathlib.Numerals.{add-one}
 use native.Mathlib.Omega.{arith}
 use lib.ListN.{length, take, getD}
-use Rattle.words.specs.Word.{kindOf, payloadOf, headPairs, headRegisters, headSpare, captureOf, launchOf, pairSpare, wordOf, headWord, pairWord, total, wrappedSum}
+use Rattle.words.specs.Word.{payloadBits, countBits, registerBits, wordBits, kindHead, kindPair, kindOf, payloadOf, headPairs, headRegisters}
+use Rattle.words.specs.Word.{headSpare, captureOf, launchOf, pairSpare, wordOf, headWord, pairWord, total, wrappedSum}
 
 -- ---- any kind of word
 
-pub kind-of-word : (kind payload : ℕ) → payload < 2 ^ 29 → kindOf (wordOf kind payload) ≡ kind
+pub kind-of-word : (kind payload : ℕ) → payload < 2 ^ payloadBits → kindOf (wordOf kind payload) ≡ kind
 kind-of-word kind payload h = omega arith
 
-pub payload-of-word : (kind payload : ℕ) → payload < 2 ^ 29 → payloadOf (wordOf kind payload) ≡ payload
+pub payload-of-word : (kind payload : ℕ) → payload < 2 ^ payloadBits → payloadOf (wordOf kind payload) ≡ payload
 payload-of-word kind payload h = omega arith
 
 pub word-of-parts : (w : ℕ) → wordOf (kindOf w) (payloadOf w) ≡ w
@@ -22,27 +23,27 @@ word-of-parts w = omega arith
 -- ---- the head and a pair word
 
 pub record HeadIs (n m w : ℕ) : Type 0 where
-  pub kind : kindOf w ≡ 1
+  pub kind : kindOf w ≡ kindHead
   pub spare : headSpare w ≡ 0
   pub registers : headRegisters w ≡ n
   pub pairs : headPairs w ≡ m
 
-pub head-of-word : (n m : ℕ) → n < 2 ^ 10 → m < 2 ^ 12 → HeadIs n m (headWord n m)
+pub head-of-word : (n m : ℕ) → n < 2 ^ registerBits → m < 2 ^ countBits → HeadIs n m (headWord n m)
 head-of-word n m hn hm = omega arith
 
-pub word-of-head : (w : ℕ) → kindOf w ≡ 1 → headSpare w ≡ 0 → headWord (headRegisters w) (headPairs w) ≡ w
+pub word-of-head : (w : ℕ) → kindOf w ≡ kindHead → headSpare w ≡ 0 → headWord (headRegisters w) (headPairs w) ≡ w
 word-of-head w k s = omega arith
 
 pub record PairWordIs (launch capture w : ℕ) : Type 0 where
-  pub kind : kindOf w ≡ 2
+  pub kind : kindOf w ≡ kindPair
   pub spare : pairSpare w ≡ 0
   pub launched : launchOf w ≡ launch
   pub captured : captureOf w ≡ capture
 
-pub pair-of-word : (a b : ℕ) → a < 2 ^ 10 → b < 2 ^ 10 → PairWordIs a b (pairWord a b)
+pub pair-of-word : (a b : ℕ) → a < 2 ^ registerBits → b < 2 ^ registerBits → PairWordIs a b (pairWord a b)
 pair-of-word a b ha hb = omega arith
 
-pub word-of-pair : (w : ℕ) → kindOf w ≡ 2 → pairSpare w ≡ 0 → pairWord (launchOf w) (captureOf w) ≡ w
+pub word-of-pair : (w : ℕ) → kindOf w ≡ kindPair → pairSpare w ≡ 0 → pairWord (launchOf w) (captureOf w) ≡ w
 word-of-pair w k s = omega arith
 
 -- ---- the sum
@@ -53,5 +54,5 @@ total-suc [] i h = absurd (not-suc-le-zero h)
 total-suc (w ∷ ws) zero h = omega arith
 total-suc (w ∷ ws) (suc i) h = omega (arith, total-suc ws i (le-of-suc-le-suc h))
 
-pub sum-more : (ws : List ℕ) (i a : ℕ) → i < length ws → a ≡ wrappedSum (take i ws) → (a + getD ws i 0) % 2 ^ 32 ≡ wrappedSum (take (i + 1) ws)
+pub sum-more : (ws : List ℕ) (i a : ℕ) → i < length ws → a ≡ wrappedSum (take i ws) → (a + getD ws i 0) % 2 ^ wordBits ≡ wrappedSum (take (i + 1) ws)
 sum-more ws i a h e = rw (e, add-one, total-suc ws i h, mod-add-mod)

@@ -5,11 +5,19 @@ use lib.ListN.{getD}
 use Rattle.words.specs.Word.{field}
 use Rattle.buffers.specs.Run.{run}
 
+-- the bits of a byte
+abbrev pub byteBits : ℕ
+byteBits = 8
+
+-- byte k of a word
+abbrev pub byteAt : ℕ → ℕ → ℕ
+byteAt k w = field (k * byteBits) byteBits w
+
 abbrev pub bytesOf : ℕ → List ℕ
-bytesOf w = field 0 8 w ∷ field 8 8 w ∷ field 16 8 w ∷ field 24 8 w ∷ []
+bytesOf w = byteAt 0 w ∷ byteAt 1 w ∷ byteAt 2 w ∷ byteAt 3 w ∷ []
 
 abbrev pub fromBytes : ℕ → ℕ → ℕ → ℕ → ℕ
-fromBytes a b c d = a + b * 2 ^ 8 + c * 2 ^ 16 + d * 2 ^ 24
+fromBytes a b c d = a + b * 2 ^ byteBits + c * 2 ^ (2 * byteBits) + d * 2 ^ (3 * byteBits)
 
 -- word k of a run of bytes
 abbrev pub wordAt : List ℕ → ℕ → ℕ

@@ -6,10 +6,17 @@ ghost use lib.ListN.{length, take, drop};
 ghost use Rattle.buffers.specs.Over.{over};
 ghost use Rattle.words.specs.Bytes.{fromBytes, bytesOf, toWords, toBytes};
 
+// A byte holds this many values. The second byte of a word counts in these, the third and the fourth in the next two.
+const BYTE: u32 = 0x100;
+
+const THIRD: u32 = BYTE * BYTE;
+
+const FOURTH: u32 = THIRD * BYTE;
+
 fn from_bytes(a: u8, b: u8, c: u8, d: u8) -> u32
     ensures { λ r. ⌜ r ≡ fromBytes a b c d ⌝ }
 {
-    (a as u32) + (b as u32) * 256 + (c as u32) * 65536 + (d as u32) * 16777216
+    (a as u32) + (b as u32) * BYTE + (c as u32) * THIRD + (d as u32) * FOURTH
 }
 
 // The first `count` words of `bytes`, into the first places of `words`; later places are kept.
@@ -30,10 +37,10 @@ fn put_word(bytes: &mut [u8], at: usize, w: u32)
     requires { ⌜ at + 4 ≤ length (now bytes) ⌝ }
     ensures { λ _. ⌜ now (bytes .exit) ≡ take at (now (bytes .entry)) ++ (bytesOf w ++ drop (at + 4) (now (bytes .entry))) ⌝ }
 {
-    bytes[at] = (w % 256) as u8;
-    bytes[at + 1] = (w / 256 % 256) as u8;
-    bytes[at + 2] = (w / 65536 % 256) as u8;
-    bytes[at + 3] = (w / 16777216 % 256) as u8;
+    bytes[at] = (w % BYTE) as u8;
+    bytes[at + 1] = (w / BYTE % BYTE) as u8;
+    bytes[at + 2] = (w / THIRD % BYTE) as u8;
+    bytes[at + 3] = (w / FOURTH % BYTE) as u8;
 }
 
 // The bytes of the first `count` words, into the first places of `bytes`; later places are kept.

@@ -5,12 +5,35 @@ mod bytes;
 pub use bytes::to_bytes;
 pub use bytes::to_words;
 ghost use mathlib.Core.Path.{_≡_};
-ghost use Prim.Native.Nat.{_+_, _*_, _^_, _<_, _≤_};
+ghost use Prim.Native.Nat.{_-_, _^_, _<_, _≤_};
 ghost use lib.ListN.{length, take};
-ghost use Rattle.words.specs.Word.{kindOf, payloadOf, headPairs, headRegisters, headSpare, captureOf, launchOf, pairSpare, wordOf, headWord, pairWord, wrappedSum, checksum};
+ghost use Rattle.words.specs.Word.{wordBits, payloadBits, countBits, registerBits, kindOf, payloadOf, headPairs, headRegisters, headSpare};
+ghost use Rattle.words.specs.Word.{captureOf, launchOf, pairSpare, wordOf, headWord, pairWord, wrappedSum, checksum};
+
+// The kinds of words.
+pub const KIND_HEAD: u32 = 1;
+
+pub const KIND_PAIR: u32 = 2;
+
+pub const KIND_LEAST: u32 = 3;
+
+pub const KIND_GREATEST: u32 = 4;
+
+pub const KIND_END: u32 = 7;
 
 // The kind counts in these: the payload below it has 29 bits.
 const KIND: u32 = 0x2000_0000;
+
+// A head word has the count of pairs in its low 12 bits, and above it the count of registers, which counts in these.
+const COUNT: u32 = 0x1000;
+
+// A register, and the count of registers, has 10 bits: in a pair word the launch register counts in these.
+const REGISTER: u32 = 0x400;
+
+// The spare bits of a head word and of a pair word count in these: they stand between what the word holds and its kind.
+const HEAD_USED: u32 = COUNT * REGISTER;
+
+const PAIR_USED: u32 = REGISTER * REGISTER;
 
 pub fn kind(w: u32) -> u32
     ensures { λ r. ⌜ r ≡ kindOf w ⌝ }
@@ -28,62 +51,62 @@ pub fn payload(w: u32) -> u32
 pub fn head_pairs(w: u32) -> u32
     ensures { λ r. ⌜ r ≡ headPairs w ⌝ }
 {
-    w % 4096
+    w % COUNT
 }
 
 // The head's count of registers.
 pub fn head_registers(w: u32) -> u32
     ensures { λ r. ⌜ r ≡ headRegisters w ⌝ }
 {
-    w / 4096 % 1024
+    w / COUNT % REGISTER
 }
 
 // The head's bits that must be zero.
 pub fn head_spare(w: u32) -> u32
     ensures { λ r. ⌜ r ≡ headSpare w ⌝ }
 {
-    w / 4194304 % 128
+    w / HEAD_USED % (KIND / HEAD_USED)
 }
 
 pub fn capture(w: u32) -> u32
     ensures { λ r. ⌜ r ≡ captureOf w ⌝ }
 {
-    w % 1024
+    w % REGISTER
 }
 
 pub fn launch(w: u32) -> u32
     ensures { λ r. ⌜ r ≡ launchOf w ⌝ }
 {
-    w / 1024 % 1024
+    w / REGISTER % REGISTER
 }
 
 // The bits of a pair word that must be zero.
 pub fn pair_spare(w: u32) -> u32
     ensures { λ r. ⌜ r ≡ pairSpare w ⌝ }
 {
-    w / 1048576 % 512
+    w / PAIR_USED % (KIND / PAIR_USED)
 }
 
 // The word of a kind with a payload.
 pub fn word_of(kind: u32, payload: u32) -> u32
-    requires { ⌜ (kind < 8) × (payload < 2 ^ 29) ⌝ }
+    requires { ⌜ (kind < 2 ^ (wordBits - payloadBits)) × (payload < 2 ^ payloadBits) ⌝ }
     ensures { λ r. ⌜ r ≡ wordOf kind payload ⌝ }
 {
     kind * KIND + payload
 }
 
 pub fn head_word(registers: u32, pairs: u32) -> u32
-    requires { ⌜ (registers < 2 ^ 10) × (pairs < 2 ^ 12) ⌝ }
+    requires { ⌜ (registers < 2 ^ registerBits) × (pairs < 2 ^ countBits) ⌝ }
     ensures { λ r. ⌜ r ≡ headWord registers pairs ⌝ }
 {
-    word_of(1, registers * 4096 + pairs)
+    word_of(KIND_HEAD, registers * COUNT + pairs)
 }
 
 pub fn pair_word(launch: u32, capture: u32) -> u32
-    requires { ⌜ (launch < 2 ^ 10) × (capture < 2 ^ 10) ⌝ }
+    requires { ⌜ (launch < 2 ^ registerBits) × (capture < 2 ^ registerBits) ⌝ }
     ensures { λ r. ⌜ r ≡ pairWord launch capture ⌝ }
 {
-    word_of(2, launch * 1024 + capture)
+    word_of(KIND_PAIR, launch * REGISTER + capture)
 }
 
 // The sum of the first `count` words, carries out of the word dropped.

@@ -2,11 +2,11 @@
 // The contract cites `list_format`: `specs/Write.antt` for the outcome, `specs/RoundTrip.antt` for the whole promise.
 ghost use mathlib.Core.Path.{_≡_};
 ghost use mathlib.Core.List.{_++_};
-ghost use Prim.Native.Nat.{_+_, _*_, _<_, _≤_};
+ghost use Prim.Native.Nat.{_+_, _*_, _^_, _<_, _≤_};
 ghost use lib.ListN.{length, take, drop, set};
 ghost use Rattle.buffers.specs.Run.{run};
 ghost use Rattle.buffers.specs.Over.{over};
-ghost use Rattle.words.specs.Word.{endWord, checksum};
+ghost use Rattle.words.specs.Word.{countBits, endWord, checksum};
 ghost use Rattle.refusals.specs.Checks.{firstFault};
 ghost use Rattle.list_format.specs.Lists.{pairPlace};
 ghost use Rattle.list_format.specs.Write.{givenCount, givenPair, FitsWords, threeOf, openList, wordsOf, countChecks, givenBody, writeChecks, GivenIn};
@@ -42,7 +42,7 @@ fn count_fault(n: u32, len: usize) -> Fault
 
 // 14, 15, 16 pair by pair, then 2.
 fn body_fault(n: u32, numbers: &[u32], m: usize, room: usize) -> Fault
-    requires { ⌜ (m < 4096) × (4 * m ≤ length (now numbers)) ⌝ }
+    requires { ⌜ (m < 2 ^ countBits) × (4 * m ≤ length (now numbers)) ⌝ }
     ensures { λ r. ⌜ r ≡ firstFault (givenBody n (now (numbers .entry)) m room) ⌝ }
 {
     let mut k = 0;
@@ -74,14 +74,17 @@ fn put(answer: &mut [u32], at: usize, p: Pair)
     ensures { λ _. ⌜ now (answer .exit) ≡ take at (now (answer .entry)) ++ (threeOf p ++ drop (at + 3) (now (answer .entry))) ⌝ }
 {
     answer[at] = words::pair_word(p.launch, p.capture);
-    answer[at + 1] = words::word_of(3, p.least);
-    answer[at + 2] = words::word_of(4, p.greatest);
+    answer[at + 1] = words::word_of(words::KIND_LEAST, p.least);
+    answer[at + 2] = words::word_of(words::KIND_GREATEST, p.greatest);
 }
 
 // The words of all m pairs, after the head.
 fn put_pairs(n: u32, numbers: &[u32], m: usize, answer: &mut [u32])
     requires { ⌜ GivenIn n (now numbers) × ((m ≡ givenCount (now numbers)) × (pairPlace m ≤ length (now answer))) ⌝ }
-    ensures { λ _. ⌜ now (answer .exit) ≡ over (take 1 (now (answer .entry)) ++ run (λ k. threeOf (givenPair (now (numbers .entry)) k)) m) (now (answer .entry)) ⌝ }
+    ensures { λ _. ⌜
+        now (answer .exit)
+        ≡ over (take 1 (now (answer .entry)) ++ run (λ k. threeOf (givenPair (now (numbers .entry)) k)) m) (now (answer .entry))
+        ⌝ }
 {
     let mut k = 0;
     while k < m {
@@ -106,13 +109,16 @@ fn put_end(answer: &mut [u32], at: usize)
     ensures { λ _. ⌜ now (answer .exit) ≡ set (now (answer .entry)) at (endWord (checksum (take at (now (answer .entry))))) ⌝ }
 {
     let sum = words::end_payload(answer, at);
-    answer[at] = words::word_of(7, sum);
+    answer[at] = words::word_of(words::KIND_END, sum);
 }
 
 // The whole list, in the first places of the buffer. The answer is the count of words.
 fn put_list(n: u32, numbers: &[u32], answer: &mut [u32]) -> usize
     requires { ⌜ GivenIn n (now numbers) × (pairPlace (givenCount (now numbers)) < length (now answer)) ⌝ }
-    ensures { λ r. ⌜ (r ≡ pairPlace (givenCount (now (numbers .entry))) + 1) × (now (answer .exit) ≡ over (wordsOf n (now (numbers .entry))) (now (answer .entry))) ⌝ }
+    ensures { λ r. ⌜
+        (r ≡ pairPlace (givenCount (now (numbers .entry))) + 1)
+        × (now (answer .exit) ≡ over (wordsOf n (now (numbers .entry))) (now (answer .entry)))
+        ⌝ }
 {
     let m = numbers.len() / 4;
     put_open(n, numbers, m, answer);

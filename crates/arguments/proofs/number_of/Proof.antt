@@ -1,4 +1,4 @@
--- One law for each way to end.
+-- `number_of`: a faulty text, one number, and more than one. One law for each.
 use Rattle.arguments.proofs.ArgumentLaws.{argument-faulty, argument-one, argument-more}
 use borrow.Author.Needs.{needs}
 use Rattle.arguments.proofs.number_of.Statement.{statement}

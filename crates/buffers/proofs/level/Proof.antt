@@ -1,4 +1,5 @@
--- `level`: the first i places are v.
+-- `level`: the first k places are set to v, the later ones kept.
+-- Invariant: the first i places are v, the others as they were. What falls: k - i.
 use denote.Ref.{now}
 use mathlib.Core.Path.{_≡_, refl, ap, _∙_}
 use mathlib.Core.List.{List, _++_}

@@ -1,4 +1,4 @@
--- The words of the bytes, and then the check.
+-- `put_against`: the words of the bytes (`load`), and then the check.
 use Rattle.list_bytes.proofs.LoadLaws.{loaded-fits, loaded-front, loaded-size}
 use borrow.Author.Needs.{needs}
 use Rattle.check_text.proofs.put_against.Statement.{statement}

@@ -1,3 +1,4 @@
+-- `put_broken`: the pair's number, the rule that it breaks, and its registers make the line.
 use native.Mathlib.Omega.{arith}
 use Rattle.checker.specs.Check.{ruleNumber}
 use Rattle.text_pieces.proofs.PutLaws.{put-then}

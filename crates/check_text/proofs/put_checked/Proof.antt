@@ -1,4 +1,4 @@
--- One law for each answer.
+-- `put_checked`: one law for each answer of the check: refused, admissible, or the first pair that breaks a rule.
 use Rattle.check_text.proofs.CheckTextLaws.{line-refused, line-admissible, broken-in, line-broken}
 use borrow.Author.Needs.{needs}
 use Rattle.check_text.proofs.put_checked.Statement.{statement}

@@ -1,3 +1,4 @@
+-- `put_registers`: launch and capture, each after its name.
 use Rattle.text_pieces.proofs.PutLaws.{put-then}
 use borrow.Author.Needs.{needs}
 use Rattle.check_text.proofs.put_registers.Statement.{statement}

@@ -1,8 +1,8 @@
--- One answer for each rule.
+-- `put_rule`: the words for setup and those for hold.
 use native.Mathlib.Omega.{arith}
 use Rattle.checker.specs.Check.{ruleNumber}
 use Rattle.text_pieces.proofs.PutLaws.{put-as}
-use Rattle.check_text.specs.CheckText.{ruleWords}
+use Rattle.check_text.specs.CheckText.{ruleWidth, ruleWords}
 use borrow.Author.Needs.{needs}
 use Rattle.check_text.proofs.put_rule.Statement.{statement}
 use Rattle.check_text.proofs.put_rule.Tie as tie
@@ -15,6 +15,8 @@ put-rule-spec =
     (λ c. search needs)
     (λ c. search needs) (λ c κs. search needs) (λ c. search needs)
     (λ c. search needs) (λ c κs. search needs) (λ c. search needs)
-    (λ c. put-as (λ r. ruleWords (ruleNumber r)) 14 (c .before .before .before .before .before .enum-told .given .1) (c .before .before .put-bytes .ensures) (omega arith))
+    (λ c. put-as (λ r. ruleWords (ruleNumber r)) ruleWidth (c .before .before .before .before .before .enum-told .given .1)
+    (c .before .before .put-bytes .ensures) (omega arith))
     (λ c. search needs)
-    (λ c. put-as (λ r. ruleWords (ruleNumber r)) 14 (c .before .before .before .before .before .enum-told2 .given .1) (c .before .before .put-bytes2 .ensures) (omega arith)))
+    (λ c. put-as (λ r. ruleWords (ruleNumber r)) ruleWidth (c .before .before .before .before .before .enum-told2 .given .1)
+    (c .before .before .put-bytes2 .ensures) (omega arith)))

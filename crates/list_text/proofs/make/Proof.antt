@@ -1,4 +1,4 @@
--- The numbers of the text, and then the list that they make.
+-- `make`: a text with a fault gives the line of the fault; the numbers of any other, the list that they make.
 use Rattle.scan.proofs.StoredLaws.{stored-fits}
 use Rattle.list_text.proofs.ListTextLaws.{numbers-some, make-faulty, make-numbers}
 use borrow.Author.Needs.{needs}
@@ -18,7 +18,9 @@ returns : tie.Need-returns
 returns c = make-faulty (c .before .before .before .before .before .scan .ensures) (c .before .before .before .fault .given .1) (c .put-fault .ensures)
 
 returns-2 : tie.Need-returns-2
-returns-2 c = make-numbers (c .before .before .before .before .before .before .before .scan .ensures) (c .before .before .before .before .before .count .given .1) (c .put-made .ensures)
+returns-2 c =
+    let w = c .before .before .before .before .before in
+    make-numbers (w .before .before .scan .ensures) (w .count .given .1) (c .put-made .ensures)
 
 pub make-spec : {M : Type 1} → statement M
 make-spec =

@@ -1,3 +1,4 @@
+-- `put_bytes`: the bytes of all words are one piece from the first place on.
 use native.Mathlib.Omega.{arith}
 use Rattle.list_text.proofs.ListTextLaws.{bytes-put}
 use borrow.Author.Needs.{needs}
@@ -5,7 +6,9 @@ use Rattle.list_text.proofs.put_bytes.Statement.{statement}
 use Rattle.list_text.proofs.put_bytes.Tie as tie
 
 returns : tie.Need-returns
-returns c = bytes-put (c .before .before .before .before .before .before .args .words .now) (c .before .before .before .before .before .before .args .out .now) _ (omega arith) (c .before .before .to-bytes .ensures)
+returns c =
+    let a = c .before .before .before .before .before .before .args in
+    bytes-put (a .words .now) (a .out .now) _ (omega arith) (c .before .before .to-bytes .ensures)
 
 pub put-bytes-spec : {M : Type 1} → statement M
 put-bytes-spec = tie.close (tie.spec (λ c κs. search needs) (λ c. search needs) (λ c. search needs) returns)

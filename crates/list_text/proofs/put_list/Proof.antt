@@ -1,3 +1,4 @@
+-- `put_list`: the count of registers in a line, and then the lines of the pairs.
 use native.Mathlib.Omega.{arith}
 use Rattle.text_pieces.proofs.PutLaws.{put-then, put-within}
 use Rattle.list_text.specs.ListText.{textOf}

@@ -1,4 +1,4 @@
--- The words of the list, and then their bytes.
+-- `put_made`: numbers that make no list give the line of the refusal; any others, the bytes of their list.
 use native.Mathlib.Omega.{arith}
 use Rattle.list_text.proofs.ListTextLaws.{written-few, written-room, written-size, make-refused, make-written}
 use borrow.Author.Needs.{needs}

@@ -1,4 +1,4 @@
--- The numbers of the list, and then its text.
+-- `put_words`: a list that is refused gives the line of the refusal; any other, its text.
 use native.Mathlib.Omega.{arith}
 use Rattle.list_text.proofs.ListTextLaws.{read-few, read-room, read-size, show-refused, show-read}
 use borrow.Author.Needs.{needs}

@@ -1,4 +1,4 @@
--- The words of the bytes, and then their text.
+-- `show`: the words of the bytes (`load`), and then their text.
 use Rattle.list_bytes.proofs.LoadLaws.{loaded-fits, loaded-front, loaded-size}
 use borrow.Author.Needs.{needs}
 use Rattle.list_text.proofs.show.Statement.{statement}

@@ -1,4 +1,4 @@
--- `broken_flag`: the pair's rules at the times of the row's choices.
+-- `broken_flag`: 1 where the pair breaks a rule at the times of the row's two choices, by the row's rule (`flag-is`).
 use mathlib.Core.Path.{sym, _∙_}
 use Rattle.split_laws.proofs.TableLaws.{row-rule, flag-is}
 use borrow.Author.Needs.{needs}
@@ -10,16 +10,16 @@ returns c =
     let w = c .before in
     let r = w .before .before .before in
     let a = r .before .args in
-    flag-is (a .period) (a .offset) (a .pair) (a .k) (row-rule (a .k) (r .before .pre) (r .row-at .ensures)) (w .before .before .time-of .ensures) (w .before .time-of2 .ensures)
-    (sym (w .meets .ensures) ∙ c .if1 .taken)
+    flag-is (a .period) (a .offset) (a .pair) (a .k) (row-rule (a .k) (r .before .pre) (r .row-at .ensures))
+    (w .before .before .time-of .ensures) (w .before .time-of2 .ensures) (sym (w .meets .ensures) ∙ c .if1 .taken)
 
 returns-2 : tie.Need-returns-2
 returns-2 c =
     let w = c .before in
     let r = w .before .before .before in
     let a = r .before .args in
-    flag-is (a .period) (a .offset) (a .pair) (a .k) (row-rule (a .k) (r .before .pre) (r .row-at .ensures)) (w .before .before .time-of .ensures) (w .before .time-of2 .ensures)
-    (sym (w .meets .ensures) ∙ c .if1 .left)
+    flag-is (a .period) (a .offset) (a .pair) (a .k) (row-rule (a .k) (r .before .pre) (r .row-at .ensures))
+    (w .before .before .time-of .ensures) (w .before .time-of2 .ensures) (sym (w .meets .ensures) ∙ c .if1 .left)
 
 pub broken-flag-spec : {M : Type 1} → statement M
 broken-flag-spec =

@@ -1,4 +1,4 @@
--- `follow`: the forcing mark is there, and then it is `force`; or it is not.
+-- `follow`: where the first register has the forcing mark it is `force` at the second; elsewhere nothing is to do.
 use Rattle.split_laws.proofs.MarkLaws.{followed}
 use borrow.Author.Needs.{needs}
 use Rattle.marks.proofs.follow.Statement.{statement}

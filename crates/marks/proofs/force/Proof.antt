@@ -1,4 +1,4 @@
--- `force`: the mark is there, is set, or clashes.
+-- `force`: the mark is there, or is set where there was none, or clashes with the other; then no split agrees.
 use denote.Ref.{now}
 use Rattle.split_laws.proofs.MarkLaws.{forced-new, forced-clash}
 use borrow.Author.Needs.{needs}

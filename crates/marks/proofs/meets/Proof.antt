@@ -1,4 +1,4 @@
--- `meets`: setup, then hold.
+-- `meets`: the pair meets setup, and then hold, at the given times of launch and capture.
 use mathlib.Core.Path.{sym, _∙_}
 use borrow.Author.Needs.{needs}
 use Rattle.marks.proofs.meets.Statement.{statement}

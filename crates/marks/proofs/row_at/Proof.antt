@@ -1,4 +1,4 @@
--- `row_at`: the constant is the table.
+-- `row_at`: row k of the constant is row k of the table, by computation.
 use mathlib.Core.Path.{refl}
 use Rattle.split_laws.specs.Table.{rowTable}
 use borrow.Author.Needs.{needs}

@@ -1,4 +1,4 @@
--- `seed`: where the flag is 1 it is `force`.
+-- `seed`: where early, early is broken the capture is forced late; elsewhere nothing is to do.
 use Rattle.split_laws.proofs.MarkLaws.{seeded}
 use borrow.Author.Needs.{needs}
 use Rattle.marks.proofs.seed.Statement.{statement}

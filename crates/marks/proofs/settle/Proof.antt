@@ -1,4 +1,5 @@
--- `settle`: the first k rows are followed; then the capture.
+-- `settle`: all that one pair's broken choices force. Invariant `Settling`: what the first k rows force is followed.
+-- What falls: 4 - k, the rows left. After them the capture is forced late where early, early is broken.
 use denote.Ref.{now}
 use mathlib.Core.Path.{_≡_}
 use Prim.Native.Nat.{_≤_, _-_}
@@ -23,8 +24,11 @@ loop-holds c =
 loop-again : tie.Need-loop-again Inv-loop μ-loop
 loop-again c =
     let l = c .before .before .before .before .before .before .before .before in
-    let a = l .before .before .args in
-    (search needs, search needs, settling-turn (a .pair) (a .t3) (search needs) (c .join .ensures) (l .loop .inv .2) (c .before .before .before .apply .ensures))
+    let a = l .before .before .args in (
+      search needs,
+      search needs,
+      settling-turn (a .pair) (a .t3) (search needs) (c .join .ensures) (l .loop .inv .2) (c .before .before .before .apply .ensures),
+    )
 
 returns : tie.Need-returns Inv-loop μ-loop
 returns c =

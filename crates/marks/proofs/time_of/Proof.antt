@@ -1,4 +1,4 @@
--- `time_of`: by the mark.
+-- `time_of`: a register marked late is clocked at the offset, any other at 0.
 use borrow.Author.Tests.{eq-eqb, ne-eqb}
 use Rattle.marks.proofs.time_of.Statement.{statement}
 use Rattle.marks.proofs.time_of.Tie as tie

@@ -1,3 +1,4 @@
+-- `print_plan`: every part of a buffer that is lent lies in it: the bytes that were read, and the text that was stored.
 use Rattle.text_pieces.proofs.PutLaws.{put-lent, lent-size}
 use borrow.Author.Needs.{needs}
 use Rattle.print_plan.proofs.print_plan.Statement.{statement}

@@ -1,3 +1,4 @@
+-- `put_fault`: the line's number after its name, and then what is wrong with the text.
 use native.Mathlib.Omega.{arith}
 use Rattle.text_pieces.proofs.PutLaws.{put-then, put-within}
 use Rattle.refusal_text.specs.PlainWords.{faultLine}

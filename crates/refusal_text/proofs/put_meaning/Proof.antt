@@ -1,7 +1,7 @@
--- One answer for each row of words, and one for the others.
+-- `put_meaning`: the words for a refusal: one answer for each row of the table, and one for the numbers without a row.
 use native.Mathlib.Omega.{arith}
 use Rattle.text_pieces.proofs.PutLaws.{put-as}
-use Rattle.refusal_text.specs.PlainWords.{wordsFor, meanings, meaning}
+use Rattle.refusal_text.specs.PlainWords.{wordsWidth, wordsFor, meanings, meaning}
 use Rattle.refusal_text.proofs.WordLaws.{others-said}
 use borrow.Author.Needs.{needs}
 use Rattle.refusal_text.proofs.put_meaning.Statement.{statement}
@@ -20,15 +20,26 @@ unfolding wordsFor meaning
 put-meaning-spec =
     tie.close
     (tie.spec
-    (λ c. search needs) (λ c κs. search needs) (λ c. search needs) (λ c κs. search needs) (λ c. search needs) (λ c κs. search needs) (λ c. search needs) (λ c κs. search needs)
-    (λ c. search needs) (λ c κs. search needs) (λ c. search needs) (λ c κs. search needs) (λ c. search needs) (λ c κs. search needs) (λ c. search needs) (λ c κs. search needs)
+    (λ c. search needs) (λ c κs. search needs) (λ c. search needs) (λ c κs. search needs)
+    (λ c. search needs) (λ c κs. search needs) (λ c. search needs) (λ c κs. search needs)
+    (λ c. search needs) (λ c κs. search needs) (λ c. search needs) (λ c κs. search needs)
+    (λ c. search needs) (λ c κs. search needs) (λ c. search needs) (λ c κs. search needs)
     (λ c. search needs) (λ c κs. search needs)
-    (λ c. search needs) (λ c. put-as meaning 80 (c .before .before .before .before .before .match .keys1) (c .before .before .put-bytes .ensures) (omega arith))
-    (λ c. search needs) (λ c. put-as meaning 80 (c .before .before .before .before .before .match .keys2) (c .before .before .put-bytes2 .ensures) (omega arith))
-    (λ c. search needs) (λ c. put-as meaning 80 (c .before .before .before .before .before .match .keys3) (c .before .before .put-bytes3 .ensures) (omega arith))
-    (λ c. search needs) (λ c. put-as meaning 80 (c .before .before .before .before .before .match .keys4) (c .before .before .put-bytes4 .ensures) (omega arith))
-    (λ c. search needs) (λ c. put-as meaning 80 (c .before .before .before .before .before .match .keys5) (c .before .before .put-bytes5 .ensures) (omega arith))
-    (λ c. search needs) (λ c. put-as meaning 80 (c .before .before .before .before .before .match .keys6) (c .before .before .put-bytes6 .ensures) (omega arith))
-    (λ c. search needs) (λ c. put-as meaning 80 (c .before .before .before .before .before .match .keys7) (c .before .before .put-bytes7 .ensures) (omega arith))
-    (λ c. search needs) (λ c. put-as meaning 80 (c .before .before .before .before .before .match .keys8) (c .before .before .put-bytes8 .ensures) (omega arith))
-    (λ c. search needs) others)
+    (λ c. search needs)
+    (λ c. put-as meaning wordsWidth (c .before .before .before .before .before .match .keys1) (c .before .before .put-bytes .ensures) (omega arith))
+    (λ c. search needs)
+    (λ c. put-as meaning wordsWidth (c .before .before .before .before .before .match .keys2) (c .before .before .put-bytes2 .ensures) (omega arith))
+    (λ c. search needs)
+    (λ c. put-as meaning wordsWidth (c .before .before .before .before .before .match .keys3) (c .before .before .put-bytes3 .ensures) (omega arith))
+    (λ c. search needs)
+    (λ c. put-as meaning wordsWidth (c .before .before .before .before .before .match .keys4) (c .before .before .put-bytes4 .ensures) (omega arith))
+    (λ c. search needs)
+    (λ c. put-as meaning wordsWidth (c .before .before .before .before .before .match .keys5) (c .before .before .put-bytes5 .ensures) (omega arith))
+    (λ c. search needs)
+    (λ c. put-as meaning wordsWidth (c .before .before .before .before .before .match .keys6) (c .before .before .put-bytes6 .ensures) (omega arith))
+    (λ c. search needs)
+    (λ c. put-as meaning wordsWidth (c .before .before .before .before .before .match .keys7) (c .before .before .put-bytes7 .ensures) (omega arith))
+    (λ c. search needs)
+    (λ c. put-as meaning wordsWidth (c .before .before .before .before .before .match .keys8) (c .before .before .put-bytes8 .ensures) (omega arith))
+    (λ c. search needs)
+    others)

@@ -1,3 +1,4 @@
+-- `put_refusal`: the number and the place of a refusal, and then what it means.
 use Rattle.text_pieces.proofs.PutLaws.{put-then}
 use Rattle.refusal_text.specs.PlainWords.{refusalLine}
 use borrow.Author.Needs.{needs}

@@ -1,4 +1,4 @@
--- Four names with their numbers make the line.
+-- `put_periods`: four names with their numbers make line one.
 use Rattle.text_pieces.proofs.PutLaws.{put-then}
 use Rattle.report.specs.Report.{periodsLine}
 use borrow.Author.Needs.{needs}

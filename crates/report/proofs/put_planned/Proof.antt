@@ -1,3 +1,4 @@
+-- `put_planned`: line one, and then the lines of the registers.
 use Rattle.text_pieces.proofs.PutLaws.{put-then}
 use borrow.Author.Needs.{needs}
 use Rattle.report.proofs.put_planned.Statement.{statement}

@@ -1,3 +1,4 @@
+-- `put_register`: a register, its free timing and its two-timing value make a line.
 use Rattle.text_pieces.proofs.PutLaws.{put-then}
 use borrow.Author.Needs.{needs}
 use Rattle.report.proofs.put_register.Statement.{statement}

@@ -1,14 +1,15 @@
--- Register after register.
+-- `put_registers`: a line for each register.
+-- Invariant `Listing`: the lines of the first r registers are stored. What falls: n - r.
 use Prim.Native.Nat.{_-_}
 use native.Mathlib.Omega.{arith}
 use Rattle.text_pieces.proofs.PutLaws.{Listing, listing-start, listing-room, listing-turn, listing-end, put-size}
-use Rattle.report.specs.Report.{planLine, registerLines}
+use Rattle.report.specs.Report.{registerWidth, planLine, registerLines}
 use borrow.Author.Needs.{needs}
 use Rattle.report.proofs.put_registers.Statement.{statement}
 use Rattle.report.proofs.put_registers.Tie as tie
 
 abbrev Inv-loop : tie.InvT-loop
-Inv-loop text₀ at answer n last₀ r₀ text last r = Listing 63 (planLine n answer) n text₀ at text last r
+Inv-loop text₀ at answer n last₀ r₀ text last r = Listing registerWidth (planLine n answer) n text₀ at text last r
 
 abbrev μ-loop : tie.MeasureT-loop
 μ-loop text₀ at answer n last₀ r₀ text last r = n - r

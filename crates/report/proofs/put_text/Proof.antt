@@ -1,4 +1,4 @@
--- One law for each way to end.
+-- `put_text`: a list that is refused gives the line of the refusal; any other, the text of its plan. One law for each.
 use Prim.Native.Nat.{_*_}
 use mathlib.Core.Path.{_≡_}
 use native.Mathlib.Omega.{arith}
@@ -24,12 +24,14 @@ put-planned-requires c κs =
 
 returns : tie.Need-returns
 returns c =
-    text-refused (c .before .before .before .before .before .before .before .before .before .plan .ensures) (c .before .before .before .before .before .number .given .1) (c .before .before .put-refused .ensures)
+    let w = c .before .before .before .before .before in
+    text-refused (w .before .before .before .before .plan .ensures) (w .number .given .1) (c .before .before .put-refused .ensures)
 
 returns-2 : tie.Need-returns-2
 returns-2 c =
-    text-planned (c .before .before .before .before .before .before .before .before .before .before .before .before .plan .ensures) (c .before .before .before .before .before .before .before .before .common .given .1)
-    (c .before .before .before .before .before .head-registers .ensures)
+    let v = c .before .before .before .before .before in
+    let w = v .before .before .before in
+    text-planned (w .before .before .before .before .plan .ensures) (w .common .given .1) (v .head-registers .ensures)
     (c .before .before .put-planned .ensures)
 
 pub put-text-spec : {M : Type 1} → statement M

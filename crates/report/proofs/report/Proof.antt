@@ -1,4 +1,4 @@
--- The words of the bytes, and then their text.
+-- `report`: the words of the bytes (`load`), and then the text of their plan.
 use Rattle.list_bytes.proofs.LoadLaws.{loaded-fits, loaded-front, loaded-size}
 use Rattle.report.specs.Report.{report}
 use borrow.Author.Needs.{needs}

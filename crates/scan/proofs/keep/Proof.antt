@@ -1,3 +1,4 @@
+-- `keep`: where a number has ended on the way, it is stored in its place; else nothing is.
 use Rattle.scan.proofs.CaseLaws.{kept-one, kept-none}
 use borrow.Author.Needs.{needs}
 use Rattle.scan.proofs.keep.Statement.{statement}

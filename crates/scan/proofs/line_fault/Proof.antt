@@ -1,3 +1,4 @@
+-- `line_fault`: whether a line may end here, case by case: not lined, empty, the first line with a number, a later one.
 use Rattle.scan.proofs.CaseLaws.{not-lined, blank-line, first-line, bad-first, pair-line, bad-pair}
 use borrow.Author.Needs.{needs}
 use Rattle.scan.proofs.line_fault.Statement.{statement}

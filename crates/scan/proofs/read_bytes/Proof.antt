@@ -1,4 +1,5 @@
--- Byte after byte.
+-- `read_bytes`: the state after all bytes, with the numbers that they end in the first places.
+-- Invariant `Scanning`: the same for the first i bytes. What falls: length bytes - i.
 use Prim.Native.Nat.{_-_}
 use native.Mathlib.Omega.{arith}
 use lib.ListN.{length}

@@ -1,4 +1,4 @@
--- One law for each way to end.
+-- `scan`: a text that is too long, one with a fault, and one of which all numbers are stored. One law for each.
 use mathlib.Core.Path.{_≡_}
 use native.Mathlib.Omega.{arith}
 use lib.ListN.{length}
@@ -15,13 +15,15 @@ turn-end-requires c κs = (c .before .read-bytes .ensures .within, search needs)
 
 returns-2 : tie.Need-returns-2
 returns-2 c =
+    let w = c .before .before .before .before in
     let told = c .before .before .turn-end .ensures in
-    scan-faulty (c .before .before .before .before .before .before .if1 .left) (search needs) (c .before .before .before .before .read-bytes .ensures) (told .0) (told .1) (c .if2 .taken)
+    scan-faulty (w .before .before .if1 .left) (search needs) (w .read-bytes .ensures) (told .0) (told .1) (c .if2 .taken)
 
 returns-3 : tie.Need-returns-3
 returns-3 c =
+    let w = c .before .before .before .before in
     let told = c .before .before .turn-end .ensures in
-    scan-numbers (c .before .before .before .before .before .before .if1 .left) (search needs) (c .before .before .before .before .read-bytes .ensures) (told .0) (told .1) (c .if2 .left)
+    scan-numbers (w .before .before .if1 .left) (search needs) (w .read-bytes .ensures) (told .0) (told .1) (c .if2 .left)
 
 pub scan-spec : {M : Type 1} → statement M
 scan-spec =

@@ -1,3 +1,4 @@
+-- `put_free`: the two periods in a line, and then the lines of the registers.
 use native.Mathlib.Omega.{arith}
 use Rattle.text_pieces.proofs.PutLaws.{put-then, put-within}
 use Rattle.schedule_text.specs.JobText.{freeLine}
@@ -8,7 +9,9 @@ use Rattle.schedule_text.proofs.put_free.Tie as tie
 returns : tie.Need-returns
 unfolding freeLine
 returns c =
-    let put = put-then (put-then (c .before .before .before .before .before .before .before .before .before .before .before .put-named .ensures) (c .before .before .before .before .before .before .put-named2 .ensures)) (c .before .before .put-timings .ensures) in
+    let c2 = c .before .before .before .before .before .before in
+    let c1 = c2 .before .before .before .before .before in
+    let put = put-then (put-then (c1 .put-named .ensures) (c2 .put-named2 .ensures)) (c .before .before .put-timings .ensures) in
     put-within put (omega (arith, put .most))
 
 pub put-free-spec : {M : Type 1} → statement M

@@ -1,4 +1,4 @@
--- The free schedule, and then its text.
+-- `put_free_words`: a list that is refused gives the line of the refusal; any other, its periods and its free schedule.
 use mathlib.Core.Path.{_≡_}
 use native.Mathlib.Omega.{arith}
 use lib.ListN.{length}
@@ -9,7 +9,9 @@ use Rattle.schedule_text.proofs.put_free_words.Statement.{statement}
 use Rattle.schedule_text.proofs.put_free_words.Tie as tie
 
 shared-slice-read-head-registers : tie.Need-shared-slice-read-head-registers
-shared-slice-read-head-registers c = omega (arith, free-in (c .before .before .before .before .before .free .ensures) (c .before .before .common .given .1) .size)
+shared-slice-read-head-registers c =
+    let w = c .before .before in
+    omega (arith, free-in (w .before .before .before .free .ensures) (w .common .given .1) .size)
 
 put-free-requires : tie.Need-put-free-requires
 put-free-requires c κs =
@@ -20,10 +22,15 @@ put-free-requires c κs =
     (omega (arith, head .most, n), omega (arith, head .most, n))
 
 returns : tie.Need-returns
-returns c = free-refused (c .before .before .before .before .before .before .before .before .free .ensures) (c .before .before .before .before .before .number .given .1) (c .before .before .put-refusal .ensures)
+returns c =
+    let w = c .before .before .before .before .before in
+    free-refused (w .before .before .before .free .ensures) (w .number .given .1) (c .before .before .put-refusal .ensures)
 
 returns-2 : tie.Need-returns-2
-returns-2 c = free-periods (c .before .before .before .before .before .before .before .before .before .before .before .free .ensures) (c .before .before .before .before .before .before .before .before .common .given .1) (c .before .before .before .before .before .head-registers .ensures) (c .before .before .put-free .ensures)
+returns-2 c =
+    let v = c .before .before .before .before .before in
+    let w = v .before .before .before in
+    free-periods (w .before .before .before .free .ensures) (w .common .given .1) (v .head-registers .ensures) (c .before .before .put-free .ensures)
 
 pub put-free-words-spec : {M : Type 1} → statement M
 put-free-words-spec =

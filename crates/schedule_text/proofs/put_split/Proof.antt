@@ -1,3 +1,4 @@
+-- `put_split`: the line `split`, and then the lines of the registers.
 use Rattle.text_pieces.proofs.PutLaws.{put-then}
 use borrow.Author.Needs.{needs}
 use Rattle.schedule_text.proofs.put_split.Statement.{statement}

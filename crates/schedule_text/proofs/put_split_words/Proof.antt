@@ -1,4 +1,4 @@
--- The split, and then its text.
+-- `put_split_words`: a refusal, no split, and the timings of the first split, each with its text.
 use mathlib.Core.Path.{_≡_}
 use native.Mathlib.Omega.{arith}
 use lib.ListN.{length}
@@ -9,7 +9,9 @@ use Rattle.schedule_text.proofs.put_split_words.Statement.{statement}
 use Rattle.schedule_text.proofs.put_split_words.Tie as tie
 
 shared-slice-read-head-registers : tie.Need-shared-slice-read-head-registers
-shared-slice-read-head-registers c = omega (arith, split-in (c .before .before .before .before .before .split .ensures) (c .before .enum-told2 .given .1) .size)
+shared-slice-read-head-registers c =
+    let w = c .before in
+    omega (arith, split-in (w .before .before .before .before .split .ensures) (w .enum-told2 .given .1) .size)
 
 put-split-requires : tie.Need-put-split-requires
 put-split-requires c κs =
@@ -20,13 +22,21 @@ put-split-requires c κs =
     (omega (arith, head .most, n), omega (arith, head .most, n))
 
 returns : tie.Need-returns
-returns c = split-refused (c .before .before .before .before .before .before .before .before .before .split .ensures) (c .before .before .before .before .before .number .given .1) (c .before .before .put-refusal .ensures)
+returns c =
+    let w = c .before .before .before .before .before in
+    split-refused (w .before .before .before .before .split .ensures) (w .number .given .1) (c .before .before .put-refusal .ensures)
 
 returns-2 : tie.Need-returns-2
-returns-2 c = split-none (c .before .before .before .before .before .before .before .before .before .split .ensures) (c .before .before .before .before .before .enum-told .given .1) (c .before .before .put-bytes .ensures)
+returns-2 c =
+    let w = c .before .before .before .before .before in
+    split-none (w .before .before .before .before .split .ensures) (w .enum-told .given .1) (c .before .before .put-bytes .ensures)
 
 returns-3 : tie.Need-returns-3
-returns-3 c = split-found (c .before .before .before .before .before .before .before .before .before .before .before .split .ensures) (c .before .before .before .before .before .before .before .enum-told2 .given .1) (c .before .before .before .before .before .head-registers .ensures) (c .before .before .put-split .ensures)
+returns-3 c =
+    let v = c .before .before .before .before .before in
+    let w = v .before .before in
+    split-found (w .before .before .before .before .split .ensures) (w .enum-told2 .given .1) (v .head-registers .ensures)
+    (c .before .before .put-split .ensures)
 
 pub put-split-words-spec : {M : Type 1} → statement M
 put-split-words-spec =

@@ -1,3 +1,4 @@
+-- `put_timing`: a register and its timing make a line.
 use Rattle.text_pieces.proofs.PutLaws.{put-then}
 use borrow.Author.Needs.{needs}
 use Rattle.schedule_text.proofs.put_timing.Statement.{statement}

@@ -1,14 +1,15 @@
--- Register after register.
+-- `put_timings`: a line for each register.
+-- Invariant `Listing`: the lines of the first r registers are stored. What falls: n - r.
 use Prim.Native.Nat.{_-_}
 use native.Mathlib.Omega.{arith}
 use Rattle.text_pieces.proofs.PutLaws.{Listing, listing-start, listing-room, listing-turn, listing-end, put-size}
-use Rattle.schedule_text.specs.JobText.{timingLine, timingLines}
+use Rattle.schedule_text.specs.JobText.{timingWidth, timingLine, timingLines}
 use borrow.Author.Needs.{needs}
 use Rattle.schedule_text.proofs.put_timings.Statement.{statement}
 use Rattle.schedule_text.proofs.put_timings.Tie as tie
 
 abbrev Inv-loop : tie.InvT-loop
-Inv-loop text₀ at timings n last₀ r₀ text last r = Listing 42 (timingLine timings) n text₀ at text last r
+Inv-loop text₀ at timings n last₀ r₀ text last r = Listing timingWidth (timingLine timings) n text₀ at text last r
 
 abbrev μ-loop : tie.MeasureT-loop
 μ-loop text₀ at timings n last₀ r₀ text last r = n - r

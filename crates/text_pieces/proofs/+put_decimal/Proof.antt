@@ -1,9 +1,10 @@
--- A single digit, or the digits before the last and then the last. The measure is the number.
-use Prim.Native.Nat.{ℕ, _/_, _<_, _≤_}
+-- `put_decimal`: a single digit, or the digits before the last and then the last (`put-first`, `put-last`).
+-- What falls: the number, a tenth of it at each call.
+use Prim.Native.Nat.{ℕ, _-_, _/_, _<_, _≤_}
 use mathlib.Core.Path.{_∙_}
 use native.Mathlib.Omega.{arith}
 use lib.ListN.{length}
-use Rattle.text_pieces.specs.Pieces.{decimal}
+use Rattle.text_pieces.specs.Pieces.{maxDigits, decimal}
 use Rattle.text_pieces.proofs.PutLaws.{put-size}
 use Rattle.text_pieces.proofs.DecimalLaws.{decimal-few, put-first, put-last}
 use borrow.Fn.Kinds.{In}
@@ -24,36 +25,40 @@ at-measure t = and 1 put-decimal-kinds.ps (is 1 put-decimal-kinds.ps μ-put-deci
 abbrev below : ℕ → In 1 put-decimal-kinds.ps
 below t = and 1 put-decimal-kinds.ps (falls 1 put-decimal-kinds.ps _<_ μ-put-decimal t) put-decimal.Pre
 
+-- what the two callees are known to do: a call for a smaller number is one of them
+abbrev claims : ℕ → put-decimal-lts.Claims
+claims t = (put-digit-reads.Asked, put-digit-reads.Learnt, below t, put-decimal.Post)
+
 module _ (t : ℕ) where
-  put-digit-requires : put-decimal-lts.Need-put-digit-requires (put-digit-reads.Asked, put-digit-reads.Learnt, below t, put-decimal.Post) (at-measure t) put-decimal.Post
+  put-digit-requires : put-decimal-lts.Need-put-digit-requires (claims t) (at-measure t) put-decimal.Post
   put-digit-requires c κs = (omega arith, omega arith)
 
-  same-length : put-decimal-lts.Need-same-length (put-digit-reads.Asked, put-digit-reads.Learnt, below t, put-decimal.Post) (at-measure t) put-decimal.Post
+  same-length : put-decimal-lts.Need-same-length (claims t) (at-measure t) put-decimal.Post
   same-length c = put-size (c .before .before .put-digit .ensures)
 
-  returns : put-decimal-lts.Need-returns (put-digit-reads.Asked, put-digit-reads.Learnt, below t, put-decimal.Post) (at-measure t) put-decimal.Post
+  returns : put-decimal-lts.Need-returns (claims t) (at-measure t) put-decimal.Post
   returns c = put-first (omega arith) (c .before .before .put-digit .ensures)
 
-  put-decimal-requires : put-decimal-lts.Need-put-decimal-requires (put-digit-reads.Asked, put-digit-reads.Learnt, below t, put-decimal.Post) (at-measure t) put-decimal.Post
+  put-decimal-requires : put-decimal-lts.Need-put-decimal-requires (claims t) (at-measure t) put-decimal.Post
   put-decimal-requires c κs = (omega arith, omega arith)
 
-  put-digit-requires-2 : put-decimal-lts.Need-put-digit-requires-2 (put-digit-reads.Asked, put-digit-reads.Learnt, below t, put-decimal.Post) (at-measure t) put-decimal.Post
+  put-digit-requires-2 : put-decimal-lts.Need-put-digit-requires-2 (claims t) (at-measure t) put-decimal.Post
   put-digit-requires-2 c κs =
       let n = c .before .before .before .before .before .before .before .args .n in
       let put = c .before .before .before .put-decimal .ensures in
-      let few : length (decimal (n / 10)) ≤ 19 = decimal-few 18 (n / 10) (omega arith) in
+      let few : length (decimal (n / 10)) ≤ maxDigits - 1 = decimal-few 18 (n / 10) (omega arith) in
       (omega arith, omega (arith, put-size put, put .after))
 
-  same-length-2 : put-decimal-lts.Need-same-length-2 (put-digit-reads.Asked, put-digit-reads.Learnt, below t, put-decimal.Post) (at-measure t) put-decimal.Post
+  same-length-2 : put-decimal-lts.Need-same-length-2 (claims t) (at-measure t) put-decimal.Post
   same-length-2 c = put-size (c .before .before .put-digit2 .ensures) ∙ put-size (c .before .before .before .before .before .before .put-decimal .ensures)
 
-  returns-2 : put-decimal-lts.Need-returns-2 (put-digit-reads.Asked, put-digit-reads.Learnt, below t, put-decimal.Post) (at-measure t) put-decimal.Post
+  returns-2 : put-decimal-lts.Need-returns-2 (claims t) (at-measure t) put-decimal.Post
   returns-2 c =
       put-last (omega arith) (omega arith) (c .before .before .before .before .before .before .put-decimal .ensures) (c .before .before .put-digit2 .ensures)
 
 pub +put-decimal-spec : {M : Type 1} → statement M
 +put-decimal-spec =
-    close μ-put-decimal (λ t. put-decimal-lts.spec (put-digit-reads.Asked, put-digit-reads.Learnt, below t, put-decimal.Post) (at-measure t) put-decimal.Post
+    close μ-put-decimal (λ t. put-decimal-lts.spec (claims t) (at-measure t) put-decimal.Post
     (put-digit-requires t)
     (same-length t)
     (returns t)

@@ -1,3 +1,4 @@
+-- `put_byte`: one store is a piece of one byte.
 use native.Mathlib.Omega.{arith}
 use Rattle.text_pieces.proofs.PutLaws.{put-one}
 use borrow.Author.Needs.{needs}

@@ -1,4 +1,5 @@
--- Byte after byte.
+-- `put_bytes`: the bytes, one after the other, are one piece.
+-- Invariant `Listing`: the first i bytes are stored. What falls: length bytes - i.
 use Prim.Native.Nat.{_-_}
 use native.Mathlib.Omega.{arith}
 use lib.ListN.{length}

@@ -1,3 +1,4 @@
+-- `put_named`: a name, and after it its number.
 use Rattle.text_pieces.proofs.PutLaws.{put-then}
 use borrow.Author.Needs.{needs}
 use Rattle.text_pieces.proofs.put_named.Statement.{statement}

@@ -1,3 +1,4 @@
+-- `put_number`: a number in decimal, and after it the byte that ends it.
 use Rattle.text_pieces.proofs.PutLaws.{put-then}
 use borrow.Author.Needs.{needs}
 use Rattle.text_pieces.proofs.put_number.Statement.{statement}

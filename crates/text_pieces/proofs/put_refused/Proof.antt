@@ -1,3 +1,4 @@
+-- `put_refused`: the number of a refusal after its name, and then the place after its name.
 use Rattle.text_pieces.proofs.PutLaws.{put-then}
 use Rattle.text_pieces.specs.Pieces.{refusedAt}
 use borrow.Author.Needs.{needs}

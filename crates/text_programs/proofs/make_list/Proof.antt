@@ -1,4 +1,4 @@
--- The count that is returned can be lent, in either case.
+-- `make_list`: the count of bytes that is returned can be lent, be it that of a list or that of a line.
 use mathlib.Core.Path.{ap}
 use Rattle.text_pieces.proofs.PutLaws.{put-lent, lent-size}
 use Rattle.list_text.proofs.ListTextLaws.{countOf, made-put}

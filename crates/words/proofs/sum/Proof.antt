@@ -1,4 +1,5 @@
--- The loop adds the words up, wrapped: what it has is the wrapped sum of the words passed.
+-- `sum`: the words added up, carries out of the word dropped.
+-- Invariant: `acc` is the wrapped sum of the first i words. What falls: count - i.
 use Prim.Native.Nat.{_≤_, _-_}
 use mathlib.Core.Path.{_≡_, _∙_}
 use native.Mathlib.Omega.{arith}

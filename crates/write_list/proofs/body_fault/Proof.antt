@@ -1,4 +1,5 @@
--- What is left of the checks decides as the whole does.
+-- `body_fault`: the first refusal of the pairs, each with its registers and delays, and then of the room.
+-- Invariant `Remaining`: the checks of pair k and later ones decide as the whole run does. What falls: m - k.
 use Prim.Native.Nat.{_+_, _-_}
 use mathlib.Core.List.{[], _∷_}
 use mathlib.Core.Path.{sym, _∙_}

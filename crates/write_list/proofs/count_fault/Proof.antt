@@ -1,4 +1,4 @@
--- One check of the run for each `or`.
+-- `count_fault`: the checks of the counts in their order, one for each `or`.
 use Rattle.refusals.specs.Checks.{orCheck, faultAfter}
 use borrow.Author.Needs.{needs}
 use Rattle.write_list.proofs.count_fault.Statement.{statement}

@@ -1,4 +1,4 @@
--- Three stores make one stretch.
+-- `put`: the three words of a pair stand from `at` on; three stores make one stretch.
 use native.Mathlib.Numerals.{add-one, add-two}
 use native.Mathlib.Omega.{arith}
 use lib.ListN.{length-set}

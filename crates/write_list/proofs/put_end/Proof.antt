@@ -1,3 +1,4 @@
+-- `put_end`: the end word with the checksum of all words before it.
 use borrow.Author.Needs.{needs}
 use Rattle.write_list.proofs.put_end.Statement.{statement}
 use Rattle.write_list.proofs.put_end.Tie as tie

@@ -1,4 +1,4 @@
--- The head, and then the pairs.
+-- `put_open`: the head in the first place, and then the words of the pairs.
 use mathlib.Core.Path.{_∙_}
 use native.Mathlib.Omega.{arith}
 use lib.ListN.{length-set}
@@ -15,7 +15,8 @@ returns : tie.Need-returns
 returns c =
     let s = c .before .before .before .before .before .before .before in
     rw (← s .pre .1 .0)
-    (rw (c .before .before .before .before .head-word .ensures) at (c .before .before .put-pairs .ensures) ∙ over-first (s .args .answer .now) _ (headWord (s .args .n) (s .args .m)) (omega arith))
+    (rw (c .before .before .before .before .head-word .ensures) at (c .before .before .put-pairs .ensures)
+    ∙ over-first (s .args .answer .now) _ (headWord (s .args .n) (s .args .m)) (omega arith))
 
 pub put-open-spec : {M : Type 1} → statement M
 put-open-spec =

@@ -1,4 +1,5 @@
--- Pair after pair, three places each, after the head.
+-- `put_pairs`: the words of all pairs, three places each, after the head.
+-- Invariant `Filling`: those of the first k pairs stand there. What falls: m - k.
 use Prim.Native.Nat.{_-_, _<_}
 use mathlib.Core.Path.{_≡_, refl}
 use native.Mathlib.Omega.{arith}
@@ -26,7 +27,8 @@ put-requires c κs =
     let s = c .before .before .before .before .before .before .before in
     let at = c .before .before .before .before .loop in
     let below : at .k < givenCount (s .args .numbers .now) = omega arith in
-    (omega (arith, filling-size (at .inv)), rw (c .before .before .given-pair .ensures) (given-fits (s .args .n) (s .args .numbers .now) (s .pre .0) (at .k) below))
+    let fits = given-fits (s .args .n) (s .args .numbers .now) (s .pre .0) (at .k) below in
+    (omega (arith, filling-size (at .inv)), rw (c .before .before .given-pair .ensures) fits)
 
 loop-again : tie.Need-loop-again Inv-loop μ-loop
 loop-again c =

@@ -1,4 +1,5 @@
--- One law for each way to end.
+-- `write`: a refusal keeps the buffer, and numbers that pass every check are written as their list, which reads back
+-- to the same numbers. One law for each.
 use mathlib.Core.Path.{sym, _∙_}
 use Rattle.list_format.proofs.WriteBack.{given-in}
 use Rattle.list_format.proofs.WriteLaws.{write-refused, write-room, write-done}
@@ -20,8 +21,10 @@ returns c =
 returns-2 : tie.Need-returns-2
 returns-2 c =
     let s = c .before .before .before .before .before .before .before .before .before .args in
+    let w = c .before .before .before .before in
+    let none = sym (w .before .before .write-fault .ensures) ∙ w .enum-told .given .1 in
     let list = c .before .before .put-list .ensures in
-    write-done (s .n) (s .numbers .now) (s .answer .now) (sym (c .before .before .before .before .before .before .write-fault .ensures) ∙ c .before .before .before .before .enum-told .given .1) _ _ (list .0) (list .1)
+    write-done (s .n) (s .numbers .now) (s .answer .now) none _ _ (list .0) (list .1)
 
 pub write-spec : {M : Type 1} → statement M
 write-spec =

@@ -1,8 +1,8 @@
+-- `write_fault`: the counts refuse, or else the pairs and the room decide.
 use lib.ListN.{length}
 use Rattle.timing.specs.Limits.{maxPairs}
 use Rattle.list_format.specs.Write.{givenCount, countChecks}
 use Prim.Native.Nat.{_≤_}
--- The counts decide, or else the pairs and the room.
 use mathlib.Core.Path.{sym, _∙_}
 use native.Mathlib.Omega.{arith}
 use borrow.Author.Tests.{ltb-false}
@@ -13,8 +13,9 @@ use Rattle.write_list.proofs.write_fault.Tie as tie
 
 body-fault-requires : tie.Need-body-fault-requires
 body-fault-requires c κs =
-    let h = passed (countChecks (c .before .before .before .before .args .n) (length (c .before .before .before .before .args .numbers .now))) (sym (c .before .before .count-fault .ensures) ∙ c .enum-told .given .1) in
-    let few : givenCount (c .before .before .before .before .args .numbers .now) ≤ maxPairs = ltb-false _ _ (h .1 .1 .1 .0) in
+    let a = c .before .before .before .before .args in
+    let h = passed (countChecks (a .n) (length (a .numbers .now))) (sym (c .before .before .count-fault .ensures) ∙ c .enum-told .given .1) in
+    let few : givenCount (a .numbers .now) ≤ maxPairs = ltb-false _ _ (h .1 .1 .1 .0) in
     omega arith
 
 returns : tie.Need-returns

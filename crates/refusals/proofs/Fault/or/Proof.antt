@@ -1,4 +1,4 @@
--- `or` is `orCheck`, case by case.
+-- `or`: one check more counts only where none before it failed, case by case of what was found and of the check.
 use Rattle.refusals.specs.Checks.{orCheck}
 use borrow.Author.Needs.{needs}
 use Rattle.refusals.proofs.Fault.or.Statement.{statement}

@@ -1,3 +1,4 @@
+-- `close`: a number that has begun ends, and one number more has ended; one too many is fault 5.
 use mathlib.Core.Path.{_∙_}
 use Rattle.scan.proofs.CaseLaws.{ended-outside, ended-full, ended-next}
 use borrow.Author.Needs.{needs}

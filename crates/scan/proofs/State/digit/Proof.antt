@@ -1,3 +1,4 @@
+-- `digit`: the value grows by a digit, or is fault 2 above the largest number.
 use mathlib.Core.Path.{_∙_}
 use Rattle.scan.proofs.CaseLaws.{digit-large, digit-more}
 use borrow.Author.Needs.{needs}

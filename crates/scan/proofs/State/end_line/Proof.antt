@@ -1,3 +1,4 @@
+-- `end_line`: the next line begins, unless this one has the wrong count of numbers or something was wrong before.
 use mathlib.Core.Path.{_∙_}
 use Rattle.scan.proofs.CaseLaws.{line-stays, line-fails, line-next}
 use borrow.Author.Needs.{needs}

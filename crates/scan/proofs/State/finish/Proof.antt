@@ -1,3 +1,4 @@
+-- `finish`: the end of the text ends its last number and its last line; a text without a number is fault 6.
 use mathlib.Core.Path.{_∙_}
 use Rattle.scan.proofs.CaseLaws.{finish-stays, finish-faulty, finish-none, finish-some}
 use Rattle.scan.proofs.StateLaws.{ended-in}

@@ -1,3 +1,4 @@
+-- `step`: one byte more: a space, a newline, a digit, or fault 1. One law of CaseLaws for each way.
 use mathlib.Core.Path.{_∙_}
 use Rattle.scan.proofs.CaseLaws.{step-stays, step-space, step-newline, step-low, step-high, step-digit}
 use Rattle.scan.proofs.StateLaws.{ended-in}
@@ -27,12 +28,14 @@ returns-4 c =
 returns-5 : tie.Need-returns-5
 returns-5 c =
     let w = c .before .before in
-    c .fail2 .ensures ∙ step-high _ _ (w .before .before .before .if1 .left) (w .before .before .if2 .left) (w .before .if3 .left) (w .if4 .left) (c .before .if5 .taken)
+    c .fail2 .ensures
+    ∙ step-high _ _ (w .before .before .before .if1 .left) (w .before .before .if2 .left) (w .before .if3 .left) (w .if4 .left) (c .before .if5 .taken)
 
 returns-6 : tie.Need-returns-6
 returns-6 c =
     let w = c .before .before in
-    c .digit .ensures ∙ step-digit _ _ (w .before .before .before .if1 .left) (w .before .before .if2 .left) (w .before .if3 .left) (w .if4 .left) (c .before .if5 .left)
+    c .digit .ensures
+    ∙ step-digit _ _ (w .before .before .before .if1 .left) (w .before .before .if2 .left) (w .before .if3 .left) (w .if4 .left) (c .before .if5 .left)
 
 pub step-spec : {M : Type 1} → statement M
 step-spec =

@@ -1,4 +1,4 @@
--- Four stores make one stretch.
+-- `put_word`: the four bytes of a word, the lowest first, stand from `at` on; four stores make one stretch (`sets-put`).
 use mathlib.Core.Path.{_≡_}
 use Prim.Native.Nat.{_/_, _%_}
 use native.Mathlib.Numerals.{add-one, add-two, add-three}

@@ -1,3 +1,5 @@
+-- `to_bytes`: the bytes of the first `count` words fill the buffer from the front.
+-- Invariant `Filling`: the bytes of the first k words stand there. What falls: count - k.
 use mathlib.Core.List.{[], _∷_}
 use mathlib.Core.Path.{refl}
 use Prim.Native.Nat.{_-_, _*_}

@@ -1,3 +1,5 @@
+-- `to_words`: the first `count` words of the bytes fill the buffer from the front.
+-- Invariant `Filling`: the first k words stand there. What falls: count - k.
 use mathlib.Core.List.{[], _∷_}
 use mathlib.Core.Path.{refl}
 use Prim.Native.Nat.{_-_, _<_}
