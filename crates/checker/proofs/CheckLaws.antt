@@ -1,7 +1,7 @@
 -- The walk to the first pair that breaks a rule, and what it says of the schedule.
 use Prim.Native.Nat.{ℕ, suc, _+_, _≤_, _<_, zero-le}
 use mathlib.Core.Bool.{Bool, true, false, not, _||_, false≢true}
-use mathlib.Core.List.{List, []}
+use mathlib.Core.List.{List, [], _∷_}
 use mathlib.Core.Logic.{_⊎_, inl, inr}
 use mathlib.Core.Path.{_≡_, refl, ap, sym, _∙_}
 use native.Mathlib.Nat.{eq-or-lt-of-le}
@@ -14,20 +14,20 @@ use lib.ListN.{length, drop, getD, drop-of-length-le}
 use lib.Seq.{drop-cons}
 use Rattle.timing.specs.declared.Pair.{Pair}
 use Rattle.timing.specs.Rules.{setupMet, holdMet, time, admissible}
-use Rattle.timing.specs.Limits.{maxTiming}
+use Rattle.timing.specs.Limits.{maxPeriod, maxTiming}
 use Rattle.timing.proofs.RuleLaws.{test→met, met→test, admissible-sound, admissible-complete}
 use Rattle.search.proofs.SearchLaws.{IsLeast, least-is, least-is-least}
 use Rattle.refusals.specs.Checks.{firstFault}
-use Rattle.refusals.proofs.CheckLaws.{passed, stop-first, pass-first}
+use Rattle.refusals.proofs.CheckLaws.{passed, passes, pass-both, stop-first, pass-first}
 use Rattle.refusals.proofs.ReplyLaws.{answered-refused, answered-done}
 use Rattle.refusals.specs.Reply.{numbers, refused, done, replyOf}
 use Rattle.refusals.specs.declared.Fault.{Fault}
 use Rattle.refusals.specs.declared.Fault.the-variants.{None, At}
-use Rattle.list_format.specs.Lists.{registers, pairCount, pairAt, pairs, listChecks, verdict, IsPair, AcceptedList}
+use Rattle.list_format.specs.Lists.{registers, pairCount, pairAt, pairs, listChecks, verdict, IsAccepted, IsPair, AcceptedList}
 use Rattle.list_format.specs.declared.Verdict.the-variants as Verdict
 use Rattle.list_format.specs.declared.Verdict.the-variants.{Accepted}
-use Rattle.list_format.proofs.ListLaws.{refused→fault, accepted→none, none→accepted, same, each-pair, pair-holds}
-use Rattle.checker.specs.Check.{setupAt, holdAt, metAt, firstBroken, brokenRule, found, someAbove, timingChecks, checkChecks, checking, ruleNumber, checkReply, CheckedAs}
+use Rattle.list_format.proofs.ListLaws.{refused→fault, accepted→none, none→accepted, same, no-difference, each-pair, pair-holds}
+use Rattle.checker.specs.Check.{setupAt, holdAt, metAt, firstBroken, brokenRule, found, someAbove, timingChecks, checkChecks, checking, ruleNumber, checkReply, CheckedAs, Passes}
 use Rattle.checker.specs.declared.Rule.{Rule}
 use Rattle.checker.specs.declared.Rule.the-variants.{Setup, Hold}
 use Rattle.checker.specs.declared.Checking.{Checking}
@@ -221,3 +221,23 @@ module _ {s : List ℕ} {i : ℕ} (u : Unseen s i) (h : i < length s) where
 pub unseen-end : {s : List ℕ} {i : ℕ} → Unseen s i → length s ≤ i → false ≡ someAbove s
 unfolding someAbove
 unseen-end {s} {i} u h = rw (drop-of-length-le s {i = i} h) at (u .same)
+
+-- ---- a schedule handed out passes
+
+-- no timing is above the limit
+none-above : (s : List ℕ) → ((r : ℕ) → time s r ≤ maxTiming) → someAbove s ≡ false
+unfolding someAbove
+none-above [] h = refl
+none-above (x ∷ s) h = rw (le-ltb maxTiming x (h 0)) (none-above s (λ r. h (suc r)))
+
+-- what is admissible, in range and within the limit passes
+pub admissible-passes : (ws : List ℕ) (t : ℕ) (s : List ℕ) → IsAccepted ws → 1 ≤ t → t ≤ maxPeriod → length s ≡ registers ws
+    → ((r : ℕ) → time s r ≤ maxTiming) → admissible t (pairs ws) s ≡ true → Passes ws t s
+unfolding checking
+admissible-passes ws t s a from upto size limit meets =
+    answered-done (checkChecks ws t s) _ (pass-both (listChecks ws) (timingChecks (registers ws) t s) (accepted→none ws a .none) call)
+    ∙ ap (λ (xs : List ℕ). done xs []) (admissible-found ws t s meets)
+  where
+    call : firstFault (timingChecks (registers ws) t s) ≡ None
+    call = passes (timingChecks (registers ws) t s)
+        (ne-eqb t 0 (λ e. omega arith), (le-ltb _ _ upto, (no-difference _ _ size, (none-above s limit, tt))))

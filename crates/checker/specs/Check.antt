@@ -69,6 +69,10 @@ checkChecks ws t s = listChecks ws ++ timingChecks (registers ws) t s
 unfoldable pub checking : List ℕ → ℕ → List ℕ → Outcome
 checking ws t s = answered (checkChecks ws t s) (done (found ws t s) [])
 
+-- the schedule s, brought to a check at the period t, is not refused and comes out admissible
+abbrev pub Passes : List ℕ → ℕ → List ℕ → Type 0
+Passes ws t s = checking ws t s ≡ done [] []
+
 unfoldable pub ruleNumber : Rule → ℕ
 ruleNumber Setup = 0
 ruleNumber Hold = 1

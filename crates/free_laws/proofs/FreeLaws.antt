@@ -9,9 +9,10 @@ use native.Mathlib.Omega.{arith}
 use lib.ListN.{length}
 use Rattle.timing.specs.declared.Pair.{Pair}
 use Rattle.timing.specs.Rules.{time, Each, InRange}
+use Rattle.timing.proofs.EachLaws.{each-map}
 use Rattle.search.proofs.SearchLaws.{least-is-least, least-below, least-passes}
 use Rattle.buffers.specs.Over.{zeros}
-use Rattle.free_laws.specs.Free.{relax, round, rounds, freeAt, freeWorks, common, freePeriod}
+use Rattle.free_laws.specs.Free.{relax, round, rounds, freeAt, freeWorks, common, freePeriod, freeSchedule}
 use Rattle.free_laws.specs.Constraint.{Meets, setup, hold, constraints, Least}
 use Rattle.free_laws.specs.Raise.{Capped}
 use Rattle.free_laws.proofs.ConstraintList.{each-rule, within, admissible→meets, meets→admissible}
@@ -106,3 +107,16 @@ module _ (n : ℕ) (ps : List Pair) (w : Each (InRange n) ps) where
   pub period-pos : 1 ≤ freePeriod n ps
   unfolding freePeriod
   period-pos = least-is-least (λ t. freeWorks n t ps) 1 (common ps) (common-pos ps) .from
+
+  pub period-common : freePeriod n ps ≤ common ps
+  unfolding freePeriod
+  period-common = least-is-least (λ t. freeWorks n t ps) 1 (common ps) (common-pos ps) .upto
+
+-- no timing of the free schedule is later than so many of the longest steps as there are registers but one
+pub free-capped : (n : ℕ) (ps : List Pair) → Each (InRange n) ps → (c d : ℕ) → Each (λ p. p .greatest ≤ d) ps → (n - 1) * d ≤ c
+    → Capped c (freeSchedule n ps)
+unfolding freeSchedule
+free-capped n ps w c d steps room =
+    let t : ℕ = freePeriod n ps in
+    let l = free-is-least n t ps w (time (freeAt n t ps)) (works→meets n t ps (period-works n ps w)) in
+    least-capped n t ps w c d (each-map (λ p h. omega arith) ps steps) room l

@@ -15,7 +15,7 @@ use lib.Seq.{ext-getD}
 use borrow.Author.Tests.{leb-true, leb-false, le-leb, ltb-true, ltb-false}
 use Rattle.timing.specs.Rules.{time, Each}
 use Rattle.buffers.specs.Over.{zeros}
-use Rattle.free_laws.proofs.Lists.{Some, each-zip, pick-some, sift}
+use Rattle.timing.proofs.EachLaws.{Some, each-zip, pick-some, sift}
 use Rattle.free_laws.specs.Constraint.{Constraint, Meets, Within, Below, Least}
 use Rattle.free_laws.specs.Raise.{Round}
 use Rattle.free_laws.proofs.Sweep.{zeros-below, sweeps, sweep-round, still-meets}

@@ -1,4 +1,3 @@
-pub mod Lists
 pub mod ConstraintList
 pub mod Sweep
 pub mod Count

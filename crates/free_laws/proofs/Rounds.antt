@@ -12,7 +12,7 @@ use lib.Seq.{ext-getD}
 use borrow.Author.Tests.{leb-true, leb-false, le-leb}
 use Rattle.timing.specs.Rules.{time, Each}
 use Rattle.buffers.specs.Over.{zeros}
-use Rattle.free_laws.proofs.Lists.{pick-some}
+use Rattle.timing.proofs.EachLaws.{pick-some}
 use Rattle.free_laws.specs.Constraint.{Constraint, Meets, Within, Below, Least}
 use Rattle.free_laws.specs.Raise.{Attained, Round, Capped}
 use Rattle.free_laws.proofs.Sweep.{zeros-below, sweeps}

@@ -11,7 +11,7 @@ use lib.Seq.{getD-set-same}
 use Rattle.timing.specs.Rules.{time, Each}
 use Rattle.buffers.specs.Over.{zeros}
 use Rattle.free_laws.specs.Free.{raise}
-use Rattle.free_laws.proofs.Lists.{each-map, each-all}
+use Rattle.timing.proofs.EachLaws.{each-map, each-all}
 use Rattle.free_laws.specs.Constraint.{Constraint, Meets, Within, Below}
 use Rattle.free_laws.specs.Raise.{ask, Attained, Round}
 

@@ -10,6 +10,8 @@ use Rattle.free_laws.specs.Rival.{Frac, fracAt, Proper, RivalAdmissible}
 
 -- of n registers and the pairs ps: the period `free` and the schedule f
 pub record UnbeatenFree (n : ℕ) (ps : List Pair) (free : ℕ) (f : List ℕ) : Type 0 where
+  -- a period from 1 up
+  pub fromOne : 1 ≤ free
   -- a timing for each register
   pub size : length f ≡ n
   -- every rule is met

@@ -1,22 +1,54 @@
 -- The places that are lent and come back filled, and the answer case by case.
 use Prim.Native.Nat.{ℕ, _≤_, _<_}
 use mathlib.Core.List.{List, [], _∷_, _++_}
-use mathlib.Core.Path.{_≡_, sym, _∙_}
+use mathlib.Core.Path.{_≡_, ap, sym, _∙_}
+use native.Mathlib.Nat.{le-trans}
 use native.Mathlib.Omega.{arith}
 use borrow.Author.Tests.{lt-ltb, le-ltb}
 use lib.ListN.{length, take, drop}
 use lib.Seq.{length-take-le, take-at}
+use Rattle.timing.specs.Rules.{Each, InRange}
+use Rattle.timing.specs.Limits.{maxPeriod, maxTiming}
 use Rattle.refusals.specs.Reply.{refused, done, replyOf, bufferAfter}
 use Rattle.refusals.proofs.ReplyLaws.{one-fails, one-passes, first-refused, then-refused, then-done}
 use Rattle.list_format.specs.Lists.{registers, pairs, listChecks, verdict, AcceptedList}
 use Rattle.list_format.specs.declared.Verdict.the-variants as Verdict
-use Rattle.list_format.proofs.ListLaws.{refused→fault, accepted→none, none→accepted, pairs-in-range}
+use Rattle.list_format.proofs.ListLaws.{refused→fault, accepted→none, pairs-in-range, pairs-within, few-registers}
 use Rattle.free_laws.specs.Free.{common, freePeriod, freeSchedule}
 use Rattle.free_laws.specs.Unbeaten.{UnbeatenFree}
+use Rattle.free_laws.proofs.FreeLaws.{common-limit, period-common, free-capped}
 use Rattle.free_laws.proofs.UnbeatenLaws.{free-unbeaten}
+use Rattle.checker.specs.Check.{Passes}
+use Rattle.checker.proofs.CheckLaws.{admissible-passes}
 use Rattle.free_climb.specs.Climbed.{Climbed}
 use Rattle.free_schedule.specs.FreeCall.{freeing, freeReply, FreeAs, Roomy, FreeIn}
 use Rattle.free_schedule.specs.declared.FreeAnswer.the-variants.{Periods, Refused}
+
+-- ---- the free schedule, brought to a check at the free period
+
+module _ {ws : List ℕ} {n m : ℕ} (l : AcceptedList ws n m) where
+  inside : Each (InRange (registers ws)) (pairs ws)
+  inside = pairs-in-range ws (l .accepted)
+
+  steps : Each (λ p. p .greatest ≤ maxPeriod) (pairs ws)
+  steps = pairs-within ws (l .accepted)
+
+  unbeaten-free : UnbeatenFree (registers ws) (pairs ws) (freePeriod (registers ws) (pairs ws)) (freeSchedule (registers ws) (pairs ws))
+  unbeaten-free = free-unbeaten (registers ws) (pairs ws) inside
+
+  -- the common period is in range
+  pub common-upto : common (pairs ws) ≤ maxPeriod
+  common-upto = common-limit maxPeriod (omega arith) (pairs ws) steps
+
+  pub free-passes : Passes ws (freePeriod (registers ws) (pairs ws)) (freeSchedule (registers ws) (pairs ws))
+  free-passes =
+      admissible-passes ws _ _ (l .accepted) (unbeaten-free .fromOne)
+      (le-trans (period-common (registers ws) (pairs ws) inside) common-upto)
+      (unbeaten-free .size)
+      (free-capped (registers ws) (pairs ws) inside maxTiming maxPeriod steps (omega (arith, few-registers ws l, l .registersAre)))
+      (unbeaten-free .meets)
+
+-- ---- the call
 
 -- a place for each register: they are lent to the climb and come back filled
 module _ {ws : List ℕ} {n count : ℕ} {was : List ℕ} (r : Roomy ws n count was) where
@@ -27,15 +59,12 @@ module _ {ws : List ℕ} {n count : ℕ} {was : List ℕ} (r : Roomy ws n count 
   lent-ready =
       record { accepted = r .list .accepted; registersAre = sym lent-size ∙ r .list .registersAre; pairsAre = r .list .pairsAre }
 
-  unbeaten-here : UnbeatenFree (registers ws) (pairs ws) (freePeriod (registers ws) (pairs ws)) (freeSchedule (registers ws) (pairs ws))
-  unbeaten-here = free-unbeaten (registers ws) (pairs ws) (pairs-in-range ws (r .list .accepted))
-
   -- what was lent comes back filled
   pub lent-back : {x : List ℕ} {t : ℕ} → Climbed ws x t → FreeIn ws was (x ++ drop n was) t
   lent-back c =
       record {
         period = c .period;
-        places = rw (c .schedule, unbeaten-here .size, r .list .registersAre);
+        places = rw (c .schedule, unbeaten-free (r .list) .size, r .list .registersAre);
       }
 
   done-is : freeing ws (length was) ≡ done (common (pairs ws) ∷ freePeriod (registers ws) (pairs ws) ∷ []) (freeSchedule (registers ws) (pairs ws))
@@ -45,17 +74,19 @@ module _ {ws : List ℕ} {n count : ℕ} {was : List ℕ} (r : Roomy ws n count 
       then-done (listChecks ws) _ _ (accepted→none ws (r .list .accepted) .none) (one-passes 2 0 (le-ltb _ _ room))
 
   -- the answer, with a place for each register
-  pub settled : {common′ free : ℕ} {now : List ℕ} → common′ ≡ common (pairs ws) → FreeIn ws was now free → FreeAs ws was now (Periods common′ free)
-  unfolding replyOf bufferAfter freeReply
-  settled {common′} {free} {now} c f =
-      record {
-        reply = rw (done-is, c, f .period);
-        stored = rw done-is (f .places);
-        unbeaten = λ c₁ f₁ q.
-            let z : f₁ ≡ free = cc in
-            let first = take-at (freeSchedule (registers ws) (pairs ws)) (drop (length (freeSchedule (registers ws) (pairs ws))) was) (registers ws) (unbeaten-here .size) in
-            rw (z, f .period, f .places, first) unbeaten-here;
-      }
+  module _ {common′ free : ℕ} {now : List ℕ} (c : common′ ≡ common (pairs ws)) (f : FreeIn ws was now free) where
+    front : take (registers ws) now ≡ freeSchedule (registers ws) (pairs ws)
+    front = ap (take (registers ws)) (f .places) ∙ take-at (freeSchedule (registers ws) (pairs ws)) _ (registers ws) (unbeaten-free (r .list) .size)
+
+    pub settled : FreeAs ws was now (Periods common′ free)
+    unfolding replyOf bufferAfter freeReply
+    settled =
+        record {
+          reply = rw (done-is, c, f .period);
+          stored = rw done-is (f .places);
+          unbeaten = λ c₁ f₁ q. let z : f₁ ≡ free = cc in rw (z ∙ f .period, front) (unbeaten-free (r .list));
+          passes = λ c₁ f₁ q. let z : f₁ ≡ free = cc in rw (z ∙ f .period, front) (free-passes (r .list));
+        }
 
 module _ (ws was : List ℕ) where
   -- a refusal changes nothing
@@ -66,6 +97,7 @@ module _ (ws was : List ℕ) where
         reply = rw e;
         stored = rw e;
         unbeaten = λ common free q. let z : _≡_ {A = ℕ} 0 1 = cc in absurd (omega arith);
+        passes = λ common free q. let z : _≡_ {A = ℕ} 0 1 = cc in absurd (omega arith);
       }
 
   -- the list is refused

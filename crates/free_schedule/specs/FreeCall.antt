@@ -10,6 +10,7 @@ use Rattle.refusals.specs.Reply.{Reply, refusal, numbers, Outcome, done, replyO
 use Rattle.list_format.specs.Lists.{registers, pairCount, pairs, listChecks, IsAccepted, AcceptedList}
 use Rattle.free_laws.specs.Free.{common, freePeriod, freeSchedule}
 use Rattle.free_laws.specs.Unbeaten.{UnbeatenFree}
+use Rattle.checker.specs.Check.{Passes}
 use Rattle.free_schedule.specs.declared.FreeAnswer.{FreeAnswer}
 use Rattle.free_schedule.specs.declared.FreeAnswer.the-variants.{Periods, Refused}
 
@@ -34,6 +35,8 @@ pub record FreeAs (ws was now : List ℕ) (r : FreeAnswer) : Type 0 where
   pub stored : now ≡ bufferAfter (freeing ws (length was)) was
   -- no rival beats the free period returned and the schedule in the first n places
   pub unbeaten : (common free : ℕ) → r ≡ Periods common free → UnbeatenFree (registers ws) (pairs ws) free (take (registers ws) now)
+  -- that schedule, brought to a check at the free period, passes
+  pub passes : (common free : ℕ) → r ≡ Periods common free → Passes ws free (take (registers ws) now)
 
 -- an accepted list with its counts, and a buffer with a place for each register
 pub record Roomy (ws : List ℕ) (n count : ℕ) (buffer : List ℕ) : Type 0 where

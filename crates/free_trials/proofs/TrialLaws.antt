@@ -16,7 +16,7 @@ use Rattle.buffers.specs.Over.{zeros}
 use Rattle.free_laws.specs.Constraint.{Meets, constraints, Below, Bound}
 use Rattle.free_laws.specs.Raise.{Capped, Risen, RoundTo}
 use Rattle.free_laws.proofs.ConstraintList.{within, admissible→meets, meets→admissible}
-use Rattle.free_laws.proofs.Lists.{each-map}
+use Rattle.timing.proofs.EachLaws.{each-map}
 use Rattle.free_laws.proofs.Sweep.{zeros-below}
 use Rattle.free_laws.proofs.Least.{least-exists}
 use Rattle.free_laws.proofs.Rounds.{Rounds, rounds-start, rounds-turn, rounds-end}

@@ -1,4 +1,3 @@
-pub mod FoundLaws
 pub mod OffsetLaws
 pub mod TwoLaws
 pub mod UnbeatenLaws

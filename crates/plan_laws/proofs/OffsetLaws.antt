@@ -14,7 +14,7 @@ use Rattle.timing.specs.declared.Pair.{Pair}
 use Rattle.timing.specs.Rules.{Each}
 use Rattle.timing.proofs.RuleLaws.{test→met, met→test}
 use Rattle.free_laws.specs.Free.{common}
-use Rattle.free_laws.proofs.Lists.{each-map, each-zip}
+use Rattle.timing.proofs.EachLaws.{each-map, each-zip}
 use Rattle.split_laws.specs.Split.{timeOf, works}
 use Rattle.split_laws.specs.Marks.{keeps}
 use Rattle.split_laws.proofs.ClosureLaws.{works-each, each-works}

@@ -14,14 +14,13 @@ use Rattle.timing.specs.declared.Pair.{Pair}
 use Rattle.timing.specs.Rules.{time, Each}
 use Rattle.timing.proofs.RuleLaws.{test→met, met→test}
 use Rattle.search.proofs.SearchLaws.{IsLeast}
-use Rattle.free_laws.proofs.Lists.{each-zip}
+use Rattle.timing.proofs.EachLaws.{each-zip}
 use Rattle.free_laws.proofs.ConstraintList.{meets-longer, admissible→meets}
 use Rattle.free_laws.specs.Constraint.{Bound}
-use Rattle.split_laws.specs.Split.{nothing, found, timeOf, timings, meets, works, splits, firstOf, firstSplit}
+use Rattle.split_laws.specs.Split.{nothing, found, timeOf, timings, meets, works, splits, firstOf, firstSplit, isFound, splitWorks}
 use Rattle.split_laws.specs.Marks.{keeps}
 use Rattle.split_laws.proofs.FirstLaws.{NoLater, least-first}
 use Rattle.split_laws.proofs.ClosureLaws.{works-each, each-works, first-none}
-use Rattle.plan_laws.specs.Plan.{isFound, splitWorks}
 use Rattle.plan_laws.specs.Reach.{reachOf, Forces, Reaches, ahead, behind, ReachClosed, reachPeriod, lateAbove}
 
 -- ---- what the four choices ask of a pair at period t and offset top - t

@@ -11,7 +11,7 @@ use Rattle.free_laws.proofs.UnbeatenLaws.{free-unbeaten}
 use Rattle.split_laws.specs.Split.{timeOf, timings, works}
 use Rattle.plan_laws.specs.Plan.{twoPeriod, twoOffset, twoSplit, timingsOf, twoTimings}
 use Rattle.plan_laws.specs.Unbeaten.{UnbeatenTwo, Unbeaten}
-use Rattle.plan_laws.proofs.TwoLaws.{two-common, two-split, two-best, free-two}
+use Rattle.plan_laws.proofs.TwoLaws.{two-pos, two-common, two-split, two-best, free-two}
 
 module _ (n : ℕ) (ps : List Pair) where
   shown : twoTimings n ps ≡ timings (twoOffset n ps) (two-split n ps .split)
@@ -23,6 +23,7 @@ module _ (n : ℕ) (ps : List Pair) where
   two-unbeaten =
       let x = two-split n ps in
       record {
+        fromOne = two-pos n ps;
         size = rw shown (length-map (x .split) (timeOf (twoOffset n ps)) ∙ x .size);
         meets = rw shown (x .works);
         split = x .split;

@@ -1,19 +1,11 @@
 -- The two-timing period, its offset and its split, as definitions that compute.
-use mathlib.Core.Bool.{Bool, true, false}
+use mathlib.Core.Bool.{Bool}
 use mathlib.Core.List.{List, []}
 use Prim.Native.Nat.{ℕ, _-_}
 use Rattle.timing.specs.declared.Pair.{Pair}
 use Rattle.search.specs.Search.{least}
 use Rattle.free_laws.specs.Free.{common}
-use Rattle.split_laws.specs.Split.{Found, nothing, found, timings, firstSplit}
-
-abbrev pub isFound : Found → Bool
-isFound nothing = false
-isFound (found c) = true
-
--- some split of n registers works at period t and offset s
-unfoldable pub splitWorks : ℕ → ℕ → ℕ → List Pair → Bool
-splitWorks n t s ps = isFound (firstSplit n t s ps)
+use Rattle.split_laws.specs.Split.{Found, nothing, found, timings, firstSplit, splitWorks}
 
 -- some split works at period t with the offset that brings it up to the common period
 unfoldable pub twoWorks : ℕ → List Pair → ℕ → Bool

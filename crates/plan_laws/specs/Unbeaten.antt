@@ -30,6 +30,8 @@ pub record RivalSplit (n : ℕ) (ps : List Pair) (t p q : ℕ) (c : List Bool) :
 
 -- of n registers and the pairs ps: the two-timing period `two`, its offset and the timings c
 pub record UnbeatenTwo (n : ℕ) (ps : List Pair) (two offset : ℕ) (c : List ℕ) : Type 0 where
+  -- a period from 1 up
+  pub fromOne : 1 ≤ two
   -- a timing for each register
   pub size : length c ≡ n
   -- every rule is met

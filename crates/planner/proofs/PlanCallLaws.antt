@@ -2,11 +2,12 @@
 use Prim.Native.Nat.{ℕ, _+_, _-_, _*_, _≤_}
 use mathlib.Core.List.{List, [], _∷_, _++_, append-assoc}
 use mathlib.Core.Path.{_≡_, refl, ap, sym, _∙_}
+use native.Mathlib.Nat.{le-trans}
 use native.Mathlib.Omega.{arith}
 use borrow.Author.Tests.{ltb-false}
 use lib.ListN.{length, take, drop, replicate, length-append, length-drop, length-replicate}
 use lib.Seq.{length-take-le, take-at, drop-at}
-use Rattle.timing.specs.Limits.{scratchPlaces}
+use Rattle.timing.specs.Limits.{maxTiming, scratchPlaces}
 use Rattle.buffers.specs.Over.{over}
 use Rattle.buffers.proofs.FillLaws.{Filled, filled-put, drop-further}
 use Rattle.refusals.specs.Checks.{firstFault}
@@ -24,6 +25,10 @@ use Rattle.free_laws.proofs.FreeLaws.{period-pos}
 use Rattle.free_laws.specs.Constraint.{Bound}
 use Rattle.free_laws.proofs.Bound.{bound-free}
 use Rattle.free_schedule.specs.FreeCall.{FreeIn}
+use Rattle.free_schedule.proofs.CallLaws.{common-upto, free-passes}
+use Rattle.checker.specs.Check.{Passes}
+use Rattle.checker.proofs.CheckLaws.{admissible-passes}
+use Rattle.split_laws.proofs.TimingsLaws.{timings-below}
 use Rattle.split_laws.specs.Split.{timings}
 use Rattle.plan_laws.specs.Plan.{twoPeriod, twoOffset, twoTimings}
 use Rattle.plan_laws.specs.Unbeaten.{Unbeaten}
@@ -45,6 +50,7 @@ module _ (ws answer scratch : List ℕ) where
         stored = rw e;
         left = rw e;
         unbeaten = λ common free two offset q. let z : _≡_ {A = ℕ} 0 1 = cc in absurd (omega arith);
+        passes = λ common free two offset q. let z : _≡_ {A = ℕ} 0 1 = cc in absurd (omega arith);
       }
 
   -- the list is refused
@@ -147,6 +153,15 @@ module _ (ws answer scratch : List ℕ) {n m : ℕ} (a : PlanAllowed ws n m (len
   whole : Unbeaten (registers ws) (pairs ws) (common (pairs ws)) (freePeriod (registers ws) (pairs ws)) (twoPeriod (registers ws) (pairs ws)) (twoOffset (registers ws) (pairs ws)) (F ws) (C ws)
   whole = plan-unbeaten (registers ws) (pairs ws) (pairs-in-range ws (a .list .accepted))
 
+  -- the split's timings, brought to a check at the two-timing period
+  two-passes : Passes ws (twoPeriod (registers ws) (pairs ws)) (C ws)
+  unfolding twoOffset
+  two-passes =
+      let upto = common-upto (a .list) in
+      let limit = timings-below maxTiming (twoOffset (registers ws) (pairs ws)) (whole .split .split) (omega arith) in
+      admissible-passes ws _ (C ws) (a .list .accepted) (whole .split .fromOne) (le-trans (whole .commonLast) upto) (whole .split .size)
+      (λ r. rw (whole .split .shown) (limit r)) (whole .split .meets)
+
   outcome : planning ws (length answer) (length scratch)
       ≡ done (common (pairs ws) ∷ freePeriod (registers ws) (pairs ws) ∷ twoPeriod (registers ws) (pairs ws) ∷ twoOffset (registers ws) (pairs ws) ∷ []) ((F ws) ++ (C ws))
   unfolding planning
@@ -187,4 +202,8 @@ module _ (ws answer scratch : List ℕ) {n m : ℕ} (a : PlanAllowed ws n m (len
               let et : t₁ ≡ two = cc in
               let eo : o₁ ≡ top - two = cc in
               rw (ec ∙ e, ef ∙ f .period, et ∙ t .period, eo ∙ offset-is ws e (t .period), front, behind) whole;
+          passes = λ c₁ f₁ t₁ o₁ q.
+              let ef : f₁ ≡ free = cc in
+              let et : t₁ ≡ two = cc in
+              rw (ef ∙ f .period, et ∙ t .period, front, behind) (free-passes (a .list), two-passes);
         }

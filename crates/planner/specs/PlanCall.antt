@@ -13,6 +13,7 @@ use Rattle.list_format.specs.Lists.{registers, pairCount, pairs, listChecks, Ac
 use Rattle.free_laws.specs.Free.{common, freePeriod, freeSchedule}
 use Rattle.plan_laws.specs.Plan.{twoPeriod, twoOffset, twoTimings}
 use Rattle.plan_laws.specs.Unbeaten.{Unbeaten}
+use Rattle.checker.specs.Check.{Passes}
 use Rattle.planner.specs.declared.Planning.{Planning}
 use Rattle.planner.specs.declared.Planning.the-variants.{Planned, Refused}
 
@@ -48,6 +49,9 @@ pub record PlanAs (ws answer answer′ scratch scratch′ : List ℕ) (r : Plann
   -- no rival beats the numbers returned and the timings in the first 2n places
   pub unbeaten : (common free two offset : ℕ) → r ≡ Planned common free two offset
       → Unbeaten (registers ws) (pairs ws) common free two offset (take (registers ws) answer′) (take (registers ws) (drop (registers ws) answer′))
+  -- brought to a check, the free timings pass at the free period, the split's timings at the two-timing period
+  pub passes : (common free two offset : ℕ) → r ≡ Planned common free two offset
+      → Passes ws free (take (registers ws) answer′) × Passes ws two (take (registers ws) (drop (registers ws) answer′))
 
 -- ---- a call that no refusal fits
 

@@ -9,8 +9,8 @@ use Rattle.refusals.specs.Checks.{orCheck, faultAfter, eachCheck}
 use Rattle.refusals.specs.Reply.{unless, told}
 use Rattle.list_format.specs.Lists.{pairsFrom}
 use Rattle.free_laws.specs.Free.{relax, round, rounds, freeAt, freeWorks, common, freePeriod, freeSchedule}
-use Rattle.split_laws.specs.Split.{works, splits, firstOf, firstSplit}
-use Rattle.plan_laws.specs.Plan.{splitWorks, twoWorks, twoPeriod, twoOffset, twoSplit, twoTimings}
+use Rattle.split_laws.specs.Split.{works, splits, firstOf, firstSplit, splitWorks}
+use Rattle.plan_laws.specs.Plan.{twoWorks, twoPeriod, twoOffset, twoSplit, twoTimings}
 use Rattle.planner.specs.PlanCall.{planning}
 use Rattle.list_bytes.specs.ListBytes.{listOf}
 use Rattle.text_pieces.specs.Pieces.{letters, decimalIn, decimal, refusedAt}

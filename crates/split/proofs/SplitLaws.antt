@@ -4,12 +4,13 @@ use mathlib.Core.Bool.{Bool, true, false}
 use mathlib.Core.List.{List, _++_}
 use mathlib.Core.Path.{_≡_, ap, sym, _∙_}
 use native.Mathlib.Omega.{arith}
-use lib.ListN.{length, take, drop, replicate, length-replicate}
-use borrow.Author.Tests.{ltb-false}
+use lib.ListN.{length, take, drop, replicate, length-replicate, length-map}
+use lib.Seq.{take-at}
+use borrow.Author.Tests.{ltb-false, eqb-false}
 use Rattle.buffers.specs.Over.{over}
 use Rattle.refusals.specs.Checks.{firstFault}
 use Rattle.refusals.specs.Reply.{refused, replyOf, bufferAfter, scratchAfter}
-use Rattle.timing.specs.Limits.{scratchPlaces}
+use Rattle.timing.specs.Limits.{maxTiming, scratchPlaces}
 use Rattle.refusals.specs.declared.Fault.{Fault}
 use Rattle.refusals.specs.declared.Fault.the-variants.{None, At}
 use Rattle.refusals.proofs.CheckLaws.{pass-both, passed}
@@ -18,18 +19,28 @@ use Rattle.list_format.specs.Lists.{registers, pairCount, pairs, listChecks, ve
 use Rattle.list_format.specs.declared.Verdict.the-variants.{Accepted}
 use Rattle.list_format.specs.declared.Verdict.the-variants.{Refused as ListRefused}
 use Rattle.list_format.proofs.ListLaws.{refused→fault, accepted→none}
-use Rattle.split_laws.specs.Split.{timings, firstSplit}
+use Rattle.split_laws.specs.Split.{timeOf, timings, works, firstSplit}
+use Rattle.split_laws.proofs.TimingsLaws.{two-timings, timings-below}
+use Rattle.split_laws.proofs.FoundLaws.{found-works, none-works}
+use Rattle.checker.proofs.CheckLaws.{admissible-passes}
 use Rattle.split_laws.specs.Marks.{splitOf}
 use Rattle.propagate.specs.Store.{Decided, chosen}
 use Rattle.split.specs.declared.Splitting.the-variants.{Split, NoSplit, Refused}
-use Rattle.split.specs.Splitting.{splitCallChecks, splitChecks, splitOutcome, splitting, splitReply, SplitAs, SplitAllowed}
+use Rattle.split.specs.Splitting.{splitCallChecks, splitChecks, splitOutcome, splitting, splitReply, WorksAs, SplitAs, SplitAllowed}
 
 module _ (ws : List ℕ) (period offset : ℕ) (answer scratch : List ℕ) where
   -- a refusal changes nothing
   kept : {number place : ℕ} → splitting ws period offset (length answer) (length scratch) ≡ refused number place
       → SplitAs ws period offset answer answer scratch scratch (Refused number place)
   unfolding replyOf bufferAfter scratchAfter splitReply
-  kept e = record { reply = rw e; stored = rw e; left = rw e }
+  kept e =
+      record {
+        reply = rw e;
+        stored = rw e;
+        left = rw e;
+        works = λ q. let z : _≡_ {A = ℕ} 0 1 = cc in absurd (omega arith);
+        none = λ q. let z : _≡_ {A = ℕ} 0 1 = cc in absurd (omega arith);
+      }
 
   -- the list is refused
   pub list-refused : {number place : ℕ} → verdict ws ≡ ListRefused number place → SplitAs ws period offset answer answer scratch scratch (Refused number place)
@@ -58,6 +69,9 @@ module _ (ws : List ℕ) (period offset : ℕ) (answer scratch : List ℕ) where
           none = pass-both (listChecks ws) call (a .none) (sym fault-is ∙ g);
           lent = record { list = a .list; room = omega (arith, a .list .registersAre, a .list .pairsAre) };
           room = omega (arith, a .list .registersAre);
+          from = omega (arith, eqb-false period 0 (p .0));
+          upto = ltb-false _ _ (p .1 .0);
+          offsetIn = ltb-false _ _ (p .1 .1 .0);
         }
 
   -- ---- an allowed call
@@ -67,17 +81,53 @@ module _ (ws : List ℕ) (period offset : ℕ) (answer scratch : List ℕ) where
       zeros : S′ ≡ over (replicate (scratchPlaces (registers ws) (pairCount ws)) 0) scratch
       zeros = cleared ∙ rw (length-replicate, a .lent .list .pairsAre, d .rest, a .lent .list .registersAre)
 
-      outcome : (b : Bool) → r ≡ b → splitting ws period offset (length answer) (length scratch) ≡ splitOutcome offset (chosen b (splitOf (take n S)))
+      first : (b : Bool) → r ≡ b → firstSplit (registers ws) period offset (pairs ws) ≡ chosen b (splitOf (take n S))
+      first b e =
+          ap (λ (k : ℕ). firstSplit k period offset (pairs ws)) (sym (a .lent .list .registersAre))
+          ∙ d .first
+          ∙ ap (λ (x : Bool). chosen x (splitOf (take n S))) e
+
+      outcome : (b : Bool) → r ≡ b
+          → splitting ws period offset (length answer) (length scratch) ≡ splitOutcome offset (chosen b (splitOf (take n S)))
       unfolding splitting
       outcome b e =
-          answered-done (splitChecks ws period offset (length answer) (length scratch)) _ (a .none)
-          ∙ ap (splitOutcome offset)
-          (ap (λ (k : ℕ). firstSplit k period offset (pairs ws)) (sym (a .lent .list .registersAre)) ∙ d .first ∙ ap (λ (x : Bool). chosen x (splitOf (take n S))) e)
+          answered-done (splitChecks ws period offset (length answer) (length scratch)) _ (a .none) ∙ ap (splitOutcome offset) (first b e)
 
       pub none-shown : r ≡ false → SplitAs ws period offset answer answer scratch S′ NoSplit
-      unfolding splitOutcome replyOf bufferAfter scratchAfter splitReply
-      none-shown e = record { reply = rw (outcome false e); stored = rw (outcome false e); left = rw (outcome false e) zeros }
+      unfolding splitOutcome replyOf bufferAfter scratchAfter splitReply works
+      none-shown e =
+          record {
+            reply = rw (outcome false e);
+            stored = rw (outcome false e);
+            left = rw (outcome false e) zeros;
+            works = λ q. let z : _≡_ {A = ℕ} 0 1 = cc in absurd (omega arith);
+            none = λ q. none-works (registers ws) period offset (pairs ws) (first false e);
+          }
 
-      pub split-shown : r ≡ true → {answer′ : List ℕ} → answer′ ≡ over (timings offset (splitOf (take n S))) answer → SplitAs ws period offset answer answer′ scratch S′ Split
-      unfolding splitOutcome replyOf bufferAfter scratchAfter splitReply
-      split-shown e h = record { reply = rw (outcome true e); stored = rw (outcome true e) h; left = rw (outcome true e) zeros }
+      -- the split found works, and passes a check
+      module _ (e : r ≡ true) where
+        split-works : WorksAs ws period offset (timings offset (splitOf (take n S)))
+        unfolding works
+        split-works =
+            let c : List Bool = splitOf (take n S) in
+            let has = found-works (registers ws) period offset (pairs ws) c (first true e) in
+            let size : length (timings offset c) ≡ registers ws = length-map c (timeOf offset) ∙ has .1 in
+            let limit = timings-below maxTiming offset c (omega (arith, a .offsetIn)) in
+            record {
+              size = size;
+              two = two-timings offset c;
+              meets = has .0;
+              passes = admissible-passes ws period (timings offset c) (a .lent .list .accepted) (a .from) (a .upto) size limit (has .0);
+            }
+
+        pub split-shown : {answer′ : List ℕ} → answer′ ≡ over (timings offset (splitOf (take n S))) answer
+            → SplitAs ws period offset answer answer′ scratch S′ Split
+        unfolding splitOutcome replyOf bufferAfter scratchAfter splitReply
+        split-shown h =
+            record {
+              reply = rw (outcome true e);
+              stored = rw (outcome true e) h;
+              left = rw (outcome true e) zeros;
+              works = λ q. rw (h, take-at (timings offset (splitOf (take n S))) _ (registers ws) (split-works .size)) split-works;
+              none = λ q. let z : _≡_ {A = ℕ} 0 1 = cc in absurd (omega arith);
+            }

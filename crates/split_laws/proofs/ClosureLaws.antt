@@ -9,6 +9,7 @@ use native.Mathlib.Omega.{arith}
 use lib.ListN.{length, getD, length-map, List·getD-map}
 use borrow.Author.Count.{below-more}
 use borrow.Author.Tests.{eqb-true, eqb-false}
+use Rattle.timing.proofs.EachLaws.{each-map}
 use Rattle.timing.specs.declared.Pair.{Pair}
 use Rattle.timing.specs.Rules.{pairMet, admissible, Each, time}
 use Rattle.timing.proofs.RuleLaws.{and-true}
@@ -134,11 +135,6 @@ split-below M c a i e =
 
 -- ---- the first split
 
-module _ {A : Type 0} {P Q : A → Type 0} (f : (x : A) → P x → Q x) where
-  each-of : (xs : List A) → Each P xs → Each Q xs
-  each-of [] h = tt
-  each-of (x ∷ xs) h = (f x (h .0), each-of xs (h .1))
-
 module _ (n t s : ℕ) (ps : List Pair) where
   -- a clash refutes all splits
   pub first-none : ((c : List Bool) → works t s ps c ≡ true → ⊥) → firstSplit n t s ps ≡ nothing
@@ -153,5 +149,5 @@ module _ (n t s : ℕ) (ps : List Pair) where
   first-found M e closed sound =
       subst (λ (k : ℕ). firstOf (works t s ps) (splits k) ≡ found (splitOf M)) (length-splitOf M ∙ e)
       (least-first (splitOf M) (works t s ps)
-      (each-works t s (splitOf M) ps (each-of (λ p h. closed-keeps t s p M h) ps closed))
+      (each-works t s (splitOf M) ps (each-map (λ p h. closed-keeps t s p M h) ps closed))
       (λ c l w. split-below M c (sound c w)))

@@ -1,4 +1,6 @@
 pub mod FirstLaws
+pub mod FoundLaws
+pub mod TimingsLaws
 pub mod TableLaws
 pub mod MarkLaws
 pub mod ClosureLaws

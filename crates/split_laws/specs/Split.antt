@@ -48,3 +48,11 @@ firstOf f (c ∷ cs) = orElse (f c) c (firstOf f cs)
 -- the first split of n registers that works
 unfoldable pub firstSplit : ℕ → ℕ → ℕ → List Pair → Found
 firstSplit n t s ps = firstOf (works t s ps) (splits n)
+
+abbrev pub isFound : Found → Bool
+isFound nothing = false
+isFound (found c) = true
+
+-- some split of n registers works at period t and offset s
+unfoldable pub splitWorks : ℕ → ℕ → ℕ → List Pair → Bool
+splitWorks n t s ps = isFound (firstSplit n t s ps)

@@ -1,8 +1,8 @@
 -- What holds of each and of some elements of a list.
-use mathlib.Core.List.{List, [], _∷_}
+use mathlib.Core.List.{List, [], _∷_, _++_}
 use mathlib.Core.Logic.{_⊎_, inl, inr}
 use Prim.Native.Nat.{ℕ}
 use Rattle.timing.specs.Rules.{Each}
 
 module _ {A : Type 0} where
   abbrev pub Some : (A → Type 0) → List A → Type 0
@@ -36,3 +36,15 @@ module _ {A : Type 0} where
   pub each-all : (P : ℕ → A → Type 0) (xs : List A) → ((c : ℕ) → Each (P c) xs) → Each (λ x. (c : ℕ) → P c x) xs
   each-all P [] h = tt
   each-all P (x ∷ xs) h = (λ c. h c .0, each-all P xs (λ c. h c .1))
+
+module _ {A : Type 0} (P : A → Type 0) where
+  -- of each in two lists: of each in the two strung together, and back
+  pub each-append : (xs ys : List A) → Each P xs → Each P ys → Each P (xs ++ ys)
+  each-append [] ys h k = k
+  each-append (x ∷ xs) ys h k = (h .0, each-append xs ys (h .1) k)
+
+  pub append-each : (xs ys : List A) → Each P (xs ++ ys) → Each P xs × Each P ys
+  append-each [] ys h = (tt, h)
+  append-each (x ∷ xs) ys h =
+      let rest = append-each xs ys (h .1) in
+      ((h .0, rest .0), rest .1)

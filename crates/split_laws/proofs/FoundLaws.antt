@@ -8,21 +8,10 @@ use native.Mathlib.Omega.{arith}
 use lib.ListN.{length}
 use Rattle.timing.specs.declared.Pair.{Pair}
 use Rattle.timing.specs.Rules.{Each}
-use Rattle.split_laws.specs.Split.{Found, nothing, found, works, splits, orElse, firstOf, firstSplit}
-use Rattle.plan_laws.specs.Plan.{isFound, splitWorks}
+use Rattle.timing.proofs.EachLaws.{each-append, append-each}
+use Rattle.split_laws.specs.Split.{Found, nothing, found, works, splits, orElse, firstOf, firstSplit, isFound, splitWorks}
 
 -- ---- a property of each split of n registers
-
-module _ {A : Type 0} (P : A → Type 0) where
-  each-append : (xs ys : List A) → Each P xs → Each P ys → Each P (xs ++ ys)
-  each-append [] ys h k = k
-  each-append (x ∷ xs) ys h k = (h .0, each-append xs ys (h .1) k)
-
-  append-each : (xs ys : List A) → Each P (xs ++ ys) → Each P xs × Each P ys
-  append-each [] ys h = (tt, h)
-  append-each (x ∷ xs) ys h =
-      let rest = append-each xs ys (h .1) in
-      ((h .0, rest .0), rest .1)
 
 -- one choice more in front of each
 abbrev pushed : Bool → List (List Bool) → List (List Bool)
@@ -93,21 +82,30 @@ pub record WorkingSplit (n t s : ℕ) (ps : List Pair) : Type 0 where
   pub works : works t s ps split ≡ true
 
 module _ (n t s : ℕ) (ps : List Pair) where
+  -- what is found is a split of n registers that works
+  pub found-works : (c : List Bool) → firstSplit n t s ps ≡ found c → (works t s ps c ≡ true) × (length c ≡ n)
+  unfolding firstSplit
+  found-works c q = first-has (works t s ps) (λ d. length d ≡ n) (splits n) (each-split n (λ d. length d ≡ n) (λ d l. l)) c q
+
+  -- where nothing is found, no split of n registers works
+  pub none-works : firstSplit n t s ps ≡ nothing → (c : List Bool) → length c ≡ n → works t s ps c ≡ false
+  unfolding firstSplit
+  none-works q = split-each n (λ d. works t s ps d ≡ false) (none-passes (works t s ps) (splits n) q)
+
   pub split-there : splitWorks n t s ps ≡ true → WorkingSplit n t s ps
-  unfolding splitWorks firstSplit
+  unfolding splitWorks
   split-there e = go (firstSplit n t s ps) refl e
     where
       go : (x : Found) → firstSplit n t s ps ≡ x → isFound x ≡ true → WorkingSplit n t s ps
       go nothing q h = absurd (false≢true h)
       go (found c) q h =
-          let has = first-has (works t s ps) (λ d. length d ≡ n) (splits n) (each-split n (λ d. length d ≡ n) (λ d l. l)) c q in
+          let has = found-works c q in
           record { split = c; first = q; size = has .1; works = has .0 }
 
   pub works→there : (c : List Bool) → length c ≡ n → works t s ps c ≡ true → splitWorks n t s ps ≡ true
-  unfolding splitWorks firstSplit
+  unfolding splitWorks
   works→there c l w = go (firstSplit n t s ps) refl
     where
       go : (x : Found) → firstSplit n t s ps ≡ x → isFound x ≡ true
       go (found d) q = refl
-      go nothing q =
-          absurd (false≢true (sym (split-each n (λ d. works t s ps d ≡ false) (none-passes (works t s ps) (splits n) q) c l) ∙ w))
+      go nothing q = absurd (false≢true (sym (none-works q c l) ∙ w))
