@@ -35,7 +35,8 @@ use Rattle.split.specs.declared.Splitting.the-variants.{Split, NoSplit, Refused
 use Rattle.planner.specs.PlanCall.{planning, planReply, PlanAs}
 use Rattle.planner.specs.declared.Planning.{Planning}
 use Rattle.planner.specs.declared.Planning.the-variants.{Planned, Refused as NotPlanned}
-use Rattle.planner_c.specs.Coded.{resultStatus, valuePlaces, AnswerCoded}
+use Rattle.planner_c.specs.Coded.{resultStatus, valuePlaces, Coded, AnswerCoded}
+use Rattle.planner_c.proofs.ToldLaws.{coded-reply}
 use Rattle.planner_c.proofs.Apart.{Tellable, replyFrom, answerBy, Telling, telling, promised-read}
 
 -- ---- what checks refuse has a number above 0
@@ -152,7 +153,8 @@ checkAnswer = answerBy NotChecked (λ xs. cond (eqb (length xs) 0) Admissible (B
 pub check-telling : {ws : List ℕ} {t : ℕ} {s : List ℕ} → Telling checkReply checkAnswer (CheckedAs ws t s)
 unfolding checkReply checkAnswer answerBy ruleNumber
 check-telling {ws} {t} {s} =
-    telling (elim [ Admissible ↦ refl | Broken k rule ↦ elim rule [ Setup ↦ refl | Hold ↦ refl ] | NotChecked number place ↦ refl ]) (check-told ws t s) (λ a p. p .reply)
+    telling (elim [ Admissible ↦ refl | Broken k rule ↦ elim rule [ Setup ↦ refl | Hold ↦ refl ] | NotChecked number place ↦ refl ])
+    (check-told ws t s) (λ a p. p .reply)
 
 unfoldable pub freeAnswer : Reply → FreeAnswer
 freeAnswer = answerBy NotFreed (λ xs. Periods (getD xs 0 0) (getD xs 1 0))
@@ -169,7 +171,8 @@ pub split-telling : {ws : List ℕ} {period offset : ℕ} {answer answer′ scra
     → Telling splitReply splitAnswer (SplitAs ws period offset answer answer′ scratch scratch′)
 unfolding splitReply splitAnswer answerBy
 split-telling {ws} {period} {offset} {answer} {scratch = scratch} =
-    telling (elim [ Split ↦ refl | NoSplit ↦ refl | NotSplit number place ↦ refl ]) (split-told ws period offset (length answer) (length scratch)) (λ a p. p .reply)
+    telling (elim [ Split ↦ refl | NoSplit ↦ refl | NotSplit number place ↦ refl ])
+    (split-told ws period offset (length answer) (length scratch)) (λ a p. p .reply)
 
 unfoldable pub planAnswer : Reply → Planning
 planAnswer = answerBy NotPlanned (λ xs. Planned (getD xs 0 0) (getD xs 1 0) (getD xs 2 0) (getD xs 3 0))
@@ -177,11 +180,20 @@ planAnswer = answerBy NotPlanned (λ xs. Planned (getD xs 0 0) (getD xs 1 0) (ge
 pub plan-telling : {ws answer answer′ scratch scratch′ : List ℕ} → Telling planReply planAnswer (PlanAs ws answer answer′ scratch scratch′)
 unfolding planReply planAnswer answerBy
 plan-telling {ws} {answer} {scratch = scratch} =
-    telling (elim [ Planned common free two offset ↦ refl | NotPlanned number place ↦ refl ]) (plan-told ws (length answer) (length scratch)) (λ a p. p .reply)
+    telling (elim [ Planned common free two offset ↦ refl | NotPlanned number place ↦ refl ])
+    (plan-told ws (length answer) (length scratch)) (λ a p. p .reply)
 
--- for one: who is told 0 and four values has the plan's record of these
-pub plan-read : {ws answer answer′ scratch scratch′ : List ℕ} {common free two offset : ℕ}
-    → AnswerCoded planReply (PlanAs ws answer answer′ scratch scratch′) resultStatus (valuePlaces ∷ common ∷ free ∷ two ∷ offset ∷ [])
-    → PlanAs ws answer answer′ scratch scratch′ (Planned common free two offset)
-unfolding replyFrom planAnswer answerBy
-plan-read w = promised-read plan-telling w
+-- ---- for one, what a caller of the plan has
+
+module _ {ws answer answer′ scratch scratch′ : List ℕ} where
+  -- the numbers are those of the definition, for every input
+  pub plan-numbers : {r : ℕ} {reply : List ℕ} → AnswerCoded planReply (PlanAs ws answer answer′ scratch scratch′) r reply
+      → Coded (replyOf (planning ws (length answer) (length scratch))) r reply
+  plan-numbers w = coded-reply w (w .promised .reply)
+
+  -- who is told a result of four values has the job's record of these
+  pub plan-read : {common free two offset : ℕ}
+      → AnswerCoded planReply (PlanAs ws answer answer′ scratch scratch′) resultStatus (valuePlaces ∷ common ∷ free ∷ two ∷ offset ∷ [])
+      → PlanAs ws answer answer′ scratch scratch′ (Planned common free two offset)
+  unfolding replyFrom planAnswer answerBy
+  plan-read w = promised-read plan-telling w

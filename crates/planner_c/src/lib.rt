@@ -23,15 +23,21 @@ use split::Splitting;
 
 // A count of values, then four of them.
 const REPLY_PLACES: usize = 5;
-// The status of a result.
+
+// The status of a result; a refusal's is its number.
 const RESULT: u32 = 0;
-// The rules by number, and whether there is a split.
+
+// The rules by number.
 const SETUP: u64 = 0;
+
 const HOLD: u64 = 1;
+
+// The value of job 4: whether there is a split.
 const NO_SPLIT: u64 = 0;
+
 const SPLIT: u64 = 1;
 
-// The reply of a result with so many values. The status of a result is returned.
+// The reply of a result: how many values, and four places for them. The status of a result is returned.
 fn tell(reply: &mut [u64; REPLY_PLACES], count: u64, a: u64, b: u64, c: u64, d: u64) -> u32
     ensures status { λ r. ⌜ r ≡ resultStatus ⌝ }
     ensures places { λ _. ⌜ now (reply .exit) ≡ count ∷ a ∷ b ∷ c ∷ d ∷ [] ⌝ }
