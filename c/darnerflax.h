@@ -13,6 +13,10 @@
  * 16 least delay above greatest, 17 end word. Of the call: 3 period, offset or timings, 2 `answer` too short,
  * 1 `scratch` too short. The list is checked first, pair by pair, then 3, 2, 1; the first that fits is returned.
  *
+ * Status and reply tell one answer of the job, and all that the job promises of it is proved of the C function too:
+ * a plan that nobody beats, a list that reads back as it was written, a check that passes the admissible schedules
+ * and no other.
+ *
  * n is the count of registers (1 to 512), m the count of pairs (0 to 2,048). Times are in picoseconds.
  */
 #ifndef DARNERFLAX_H

@@ -1,2 +1,3 @@
 pub mod ToldLaws
 pub mod Apart
+pub mod Jobs

@@ -1,14 +1,22 @@
--- An answer as plain numbers: a status, and five places of a reply.
+-- An answer as plain numbers: a status, and five places of a reply; and what a caller who is told it may rely on.
 use Prim.Native.Nat.{ℕ}
 use mathlib.Core.List.{List, [], _∷_}
 use mathlib.Core.Path.{_≡_}
 use lib.ListN.{length, getD}
 use Rattle.refusals.specs.Reply.{Reply, refusal, numbers}
 
--- 0 for a result, else the refusal's number
+-- the status of a result; no refusal has this number
+abbrev pub resultStatus : ℕ
+resultStatus = 0
+
+-- a result's status, else the refusal's number
 unfoldable pub statusOf : Reply → ℕ
 statusOf (refusal number place) = number
-statusOf (numbers xs) = 0
+statusOf (numbers xs) = resultStatus
+
+-- the values that a reply has room for
+abbrev pub valuePlaces : ℕ
+valuePlaces = 4
 
 -- how many values there are, and up to four of them; zeros follow
 abbrev pub counted : List ℕ → List ℕ
@@ -23,3 +31,9 @@ placesOf (numbers xs) = counted xs
 pub record Coded (answer : Reply) (r : ℕ) (reply : List ℕ) : Type 0 where
   pub status : r ≡ statusOf answer
   pub places : reply ≡ placesOf answer
+
+-- the job gave an answer, the job's own record holds of it, and a caller was told it by these numbers
+pub record AnswerCoded {A : Type 0} (replyFor : A → Reply) (Promised : A → Type 0) (r : ℕ) (reply : List ℕ) : Type 0 where
+  pub answer : A
+  pub promised : Promised answer
+  pub coded : Coded (replyFor answer) r reply

@@ -1,21 +1,18 @@
 // The five jobs for C and Rust: plain numbers, slices as pointer and length, and a reply of five places.
-// The contracts cite `specs/Coded.antt` for status and reply, and each job's own definition of what a call comes to;
-// `proofs/Apart.antt` proves that no two answers of a job are told alike.
+// Each contract is the job's own record, of the answer that status and reply tell (`specs/Coded.antt`).
+// `proofs/Apart.antt` proves that no two answers of a job are told alike, so that the record holds of what the caller reads.
 ghost use mathlib.Core.Path.{_≡_};
 ghost use mathlib.Core.List.{[], _∷_};
-ghost use lib.ListN.{length};
-ghost use Rattle.timing.specs.Limits.{scratchPlaces};
-ghost use Rattle.refusals.specs.Reply.{replyOf, bufferAfter, scratchAfter};
-ghost use Rattle.list_format.specs.Lists.{registers, pairCount};
-ghost use Rattle.list_format.specs.Read.{reading};
-ghost use Rattle.list_format.specs.Write.{writing};
-ghost use Rattle.checker.specs.Check.{checking, ruleNumber};
-ghost use Rattle.free_schedule.specs.FreeCall.{freeing};
-ghost use Rattle.split.specs.Splitting.{splitting};
-ghost use Rattle.planner.specs.PlanCall.{planning};
+ghost use Rattle.list_format.specs.Read.{readReply};
+ghost use Rattle.list_format.specs.Write.{writeReply};
+ghost use Rattle.list_format.specs.RoundTrip.{ReadAs, WrittenAs};
+ghost use Rattle.checker.specs.Check.{checkReply, ruleNumber, CheckedAs};
+ghost use Rattle.free_schedule.specs.FreeCall.{freeReply, FreeAs};
+ghost use Rattle.split.specs.Splitting.{splitReply, SplitAs};
+ghost use Rattle.planner.specs.PlanCall.{planReply, PlanAs};
 ghost use Rattle.text_pieces.specs.Pieces.{Put};
 ghost use Rattle.report.specs.Report.{textPlaces, report};
-ghost use Rattle.planner_c.specs.Coded.{Coded};
+ghost use Rattle.planner_c.specs.Coded.{resultStatus, AnswerCoded};
 use checker::Checking;
 use checker::Rule;
 use free_schedule::FreeAnswer;
@@ -27,13 +24,26 @@ use split::Splitting;
 // A count of values, then four of them.
 const REPLY_PLACES: usize = 5;
 
-// The reply of a result with so many values. The status 0 is returned.
+// The status of a result; a refusal's is its number.
+const RESULT: u32 = 0;
+
+// The rules by number.
+const SETUP: u64 = 0;
+
+const HOLD: u64 = 1;
+
+// The value of job 4: whether there is a split.
+const NO_SPLIT: u64 = 0;
+
+const SPLIT: u64 = 1;
+
+// The reply of a result: how many values, and four places for them. The status of a result is returned.
 fn tell(reply: &mut [u64; REPLY_PLACES], count: u64, a: u64, b: u64, c: u64, d: u64) -> u32
-    ensures status { λ r. ⌜ r ≡ 0 ⌝ }
+    ensures status { λ r. ⌜ r ≡ resultStatus ⌝ }
     ensures places { λ _. ⌜ now (reply .exit) ≡ count ∷ a ∷ b ∷ c ∷ d ∷ [] ⌝ }
 {
     *reply = [count, a, b, c, d];
-    0
+    RESULT
 }
 
 // The reply of a refusal: its place. The refusal's number is returned.
@@ -45,13 +55,13 @@ fn refuse(reply: &mut [u64; REPLY_PLACES], number: u32, place: usize) -> u32
     number
 }
 
-// Setup is 0, hold is 1.
+// The number of a rule.
 fn rule_number(rule: Rule) -> u64
     ensures { λ r. ⌜ r ≡ ruleNumber rule ⌝ }
 {
     match rule {
-        Rule::Setup => 0,
-        Rule::Hold => 1,
+        Rule::Setup => SETUP,
+        Rule::Hold => HOLD,
     }
 }
 
@@ -62,8 +72,7 @@ pub extern "C" fn darnerflax_read(
     answer: &mut [u32],
     reply: &mut [u64; REPLY_PLACES],
 ) -> u32
-    ensures told { λ r. ⌜ Coded (replyOf (reading (now (words .entry)) (length (now (answer .entry))))) r (now (reply .exit)) ⌝ }
-    ensures stored { λ _. ⌜ now (answer .exit) ≡ bufferAfter (reading (now (words .entry)) (length (now (answer .entry)))) (now (answer .entry)) ⌝ }
+    ensures { λ r. ⌜ AnswerCoded readReply (ReadAs (now (words .entry)) (now (answer .entry)) (now (answer .exit))) r (now (reply .exit)) ⌝ }
 {
     match read_list::read(words, answer) {
         Reading::Refused(number, place) => refuse(reply, number, place),
@@ -79,8 +88,7 @@ pub extern "C" fn darnerflax_write(
     answer: &mut [u32],
     reply: &mut [u64; REPLY_PLACES],
 ) -> u32
-    ensures told { λ r. ⌜ Coded (replyOf (writing n (now (numbers .entry)) (length (now (answer .entry))))) r (now (reply .exit)) ⌝ }
-    ensures stored { λ _. ⌜ now (answer .exit) ≡ bufferAfter (writing n (now (numbers .entry)) (length (now (answer .entry)))) (now (answer .entry)) ⌝ }
+    ensures { λ r. ⌜ AnswerCoded writeReply (WrittenAs n (now (numbers .entry)) (now (answer .entry)) (now (answer .exit))) r (now (reply .exit)) ⌝ }
 {
     match write_list::write(n, numbers, answer) {
         Writing::Refused(number, place) => refuse(reply, number, place),
@@ -96,7 +104,7 @@ pub extern "C" fn darnerflax_check(
     timings: &[u32],
     reply: &mut [u64; REPLY_PLACES],
 ) -> u32
-    ensures told { λ r. ⌜ Coded (replyOf (checking (now (words .entry)) period (now (timings .entry)))) r (now (reply .exit)) ⌝ }
+    ensures { λ r. ⌜ AnswerCoded checkReply (CheckedAs (now (words .entry)) period (now (timings .entry))) r (now (reply .exit)) ⌝ }
 {
     match checker::check(words, period, timings) {
         Checking::Refused(number, place) => refuse(reply, number, place),
@@ -112,8 +120,7 @@ pub extern "C" fn darnerflax_free(
     answer: &mut [u32],
     reply: &mut [u64; REPLY_PLACES],
 ) -> u32
-    ensures told { λ r. ⌜ Coded (replyOf (freeing (now (words .entry)) (length (now (answer .entry))))) r (now (reply .exit)) ⌝ }
-    ensures stored { λ _. ⌜ now (answer .exit) ≡ bufferAfter (freeing (now (words .entry)) (length (now (answer .entry)))) (now (answer .entry)) ⌝ }
+    ensures { λ r. ⌜ AnswerCoded freeReply (FreeAs (now (words .entry)) (now (answer .entry)) (now (answer .exit))) r (now (reply .exit)) ⌝ }
 {
     match free_schedule::free(words, answer) {
         FreeAnswer::Refused(number, place) => refuse(reply, number, place),
@@ -131,14 +138,14 @@ pub extern "C" fn darnerflax_split(
     scratch: &mut [u32],
     reply: &mut [u64; REPLY_PLACES],
 ) -> u32
-    ensures told { λ r. ⌜ Coded (replyOf (splitting (now (words .entry)) period offset (length (now (answer .entry))) (length (now (scratch .entry))))) r (now (reply .exit)) ⌝ }
-    ensures stored { λ _. ⌜ now (answer .exit) ≡ bufferAfter (splitting (now (words .entry)) period offset (length (now (answer .entry))) (length (now (scratch .entry)))) (now (answer .entry)) ⌝ }
-    ensures left { λ _. ⌜ now (scratch .exit) ≡ scratchAfter (splitting (now (words .entry)) period offset (length (now (answer .entry))) (length (now (scratch .entry)))) (scratchPlaces (registers (now (words .entry))) (pairCount (now (words .entry)))) (now (scratch .entry)) ⌝ }
+    ensures { λ r. ⌜ AnswerCoded splitReply
+        (SplitAs (now (words .entry)) period offset (now (answer .entry)) (now (answer .exit)) (now (scratch .entry)) (now (scratch .exit)))
+        r (now (reply .exit)) ⌝ }
 {
     match split::split(words, period, offset, answer, scratch) {
         Splitting::Refused(number, place) => refuse(reply, number, place),
-        Splitting::Split => tell(reply, 1, 1, 0, 0, 0),
-        Splitting::NoSplit => tell(reply, 1, 0, 0, 0, 0),
+        Splitting::Split => tell(reply, 1, SPLIT, 0, 0, 0),
+        Splitting::NoSplit => tell(reply, 1, NO_SPLIT, 0, 0, 0),
     }
 }
 
@@ -151,9 +158,9 @@ pub extern "C" fn darnerflax_plan(
     scratch: &mut [u32],
     reply: &mut [u64; REPLY_PLACES],
 ) -> u32
-    ensures told { λ r. ⌜ Coded (replyOf (planning (now (words .entry)) (length (now (answer .entry))) (length (now (scratch .entry))))) r (now (reply .exit)) ⌝ }
-    ensures stored { λ _. ⌜ now (answer .exit) ≡ bufferAfter (planning (now (words .entry)) (length (now (answer .entry))) (length (now (scratch .entry)))) (now (answer .entry)) ⌝ }
-    ensures left { λ _. ⌜ now (scratch .exit) ≡ scratchAfter (planning (now (words .entry)) (length (now (answer .entry))) (length (now (scratch .entry)))) (scratchPlaces (registers (now (words .entry))) (pairCount (now (words .entry)))) (now (scratch .entry)) ⌝ }
+    ensures { λ r. ⌜ AnswerCoded planReply
+        (PlanAs (now (words .entry)) (now (answer .entry)) (now (answer .exit)) (now (scratch .entry)) (now (scratch .exit)))
+        r (now (reply .exit)) ⌝ }
 {
     match planner::plan(words, answer, scratch) {
         Planning::Refused(number, place) => refuse(reply, number, place),

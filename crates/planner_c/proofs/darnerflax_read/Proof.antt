@@ -1,24 +1,25 @@
--- `darnerflax_read`: one law for each way to end.
-use mathlib.Core.Path.{refl}
+-- `darnerflax_read` hands on the record of its job: each case of the answer is told by its numbers. There is no loop.
 use borrow.Author.Needs.{needs}
 use Rattle.list_format.specs.Read.{readReply}
-use Rattle.planner_c.proofs.ToldLaws.{told-refused, told-numbers}
+use Rattle.planner_c.specs.Coded.{statusOf, placesOf}
+use Rattle.planner_c.proofs.ToldLaws.{told-case}
 use Rattle.planner_c.proofs.darnerflax_read.Statement.{statement}
 use Rattle.planner_c.proofs.darnerflax_read.Tie as tie
 
 returns : tie.Need-returns
-unfolding readReply
+unfolding readReply statusOf placesOf
 returns c =
     let job = c .before .before .before .before .before .before .before .read .ensures in
-    (told-refused readReply (c .before .before .before .number .given .1) (job .reply) refl (c .refuse .ensures), job .stored)
+    told-case job (c .before .before .before .number .given .1) (c .refuse .ensures)
 
 returns-2 : tie.Need-returns-2
-unfolding readReply
+unfolding readReply statusOf placesOf
 returns-2 c =
     let job = c .before .before .before .before .before .before .before .read .ensures in
-    (told-numbers readReply (c .before .before .before .n .given .1) (job .reply) refl (c .tell .ensures), job .stored)
+    told-case job (c .before .before .before .n .given .1) (c .tell .ensures)
 
 pub darnerflax-read-spec : {M : Type 1} → statement M
 darnerflax-read-spec =
     tie.close
-    (tie.spec (λ c κs. search needs) (λ c. search needs) (λ c κs. search needs) (λ c. search needs) (λ c. search needs) (λ c. search needs) (λ c κs. search needs) (λ c. search needs) returns (λ c. search needs) returns-2)
+    (tie.spec (λ c κs. search needs) (λ c. search needs) (λ c κs. search needs) (λ c. search needs) (λ c. search needs) (λ c. search needs)
+    (λ c κs. search needs) (λ c. search needs) returns (λ c. search needs) returns-2)

@@ -1,4 +1,4 @@
--- Each rule by its number.
+-- `rule_number` gives each rule its number, case by case. There is no loop.
 use borrow.Author.Needs.{needs}
 use Rattle.checker.specs.Check.{ruleNumber}
 use Rattle.planner_c.proofs.rule_number.Statement.{statement}

@@ -1,0 +1,199 @@
+-- Each job's answers can be told: its refusals have numbers above 0, its results at most four values, and the numbers give the answer.
+-- So a caller has the job's record of the answer read from status and reply (`promised-read` of `Apart` with a `Telling` from here).
+use Prim.Native.Nat.{ℕ, zero, suc, _+_, _≤_}
+use mathlib.Core.Bool.{Bool, true, false, _&&_, cond}
+use mathlib.Core.List.{List, [], _∷_, _++_}
+use mathlib.Core.Path.{_≡_, refl}
+use native.Mathlib.Omega.{arith}
+use lib.Dec.{ltb, eqb}
+use lib.ListN.{length, getD}
+use borrow.Author.Tests.{ltb-true}
+use Rattle.timing.proofs.RuleLaws.{and-true}
+use Rattle.refusals.specs.Checks.{Check, orCheck, faultAfter, eachCheck}
+use Rattle.refusals.specs.declared.Fault.{Fault}
+use Rattle.refusals.specs.declared.Fault.the-variants.{None, At}
+use Rattle.refusals.specs.Reply.{Reply, Outcome, done, replyOf, unless, answered}
+use Rattle.list_format.specs.Lists.{listChecks, headChecks, pairChecks, endChecks, bodyChecks, registers, pairCount, pairPlace, pairs, word}
+use Rattle.list_format.specs.Read.{reading, readReply}
+use Rattle.list_format.specs.Write.{writing, writeReply, countChecks, givenChecks, givenBody, writeChecks, givenCount}
+use Rattle.list_format.specs.RoundTrip.{ReadAs, WrittenAs}
+use Rattle.list_format.specs.declared.Reading.{Reading}
+use Rattle.list_format.specs.declared.Reading.the-variants.{Read, Refused as NotRead}
+use Rattle.list_format.specs.declared.Writing.{Writing}
+use Rattle.list_format.specs.declared.Writing.the-variants.{Written, Refused as NotWritten}
+use Rattle.checker.specs.Check.{checking, found, firstBroken, brokenRule, ruleNumber, checkReply, CheckedAs}
+use Rattle.checker.specs.declared.Rule.the-variants.{Setup, Hold}
+use Rattle.checker.specs.declared.Checking.{Checking}
+use Rattle.checker.specs.declared.Checking.the-variants.{Admissible, Broken, Refused as NotChecked}
+use Rattle.free_schedule.specs.FreeCall.{freeing, freeReply, FreeAs}
+use Rattle.free_schedule.specs.declared.FreeAnswer.{FreeAnswer}
+use Rattle.free_schedule.specs.declared.FreeAnswer.the-variants.{Periods, Refused as NotFreed}
+use Rattle.split_laws.specs.Split.{Found, firstSplit}
+use Rattle.split.specs.Splitting.{splitting, splitOutcome, splitReply, SplitAs}
+use Rattle.split.specs.declared.Splitting.{Splitting}
+use Rattle.split.specs.declared.Splitting.the-variants.{Split, NoSplit, Refused as NotSplit}
+use Rattle.planner.specs.PlanCall.{planning, planReply, PlanAs}
+use Rattle.planner.specs.declared.Planning.{Planning}
+use Rattle.planner.specs.declared.Planning.the-variants.{Planned, Refused as NotPlanned}
+use Rattle.planner_c.specs.Coded.{resultStatus, valuePlaces, Coded, AnswerCoded}
+use Rattle.planner_c.proofs.ToldLaws.{coded-reply}
+use Rattle.planner_c.proofs.Apart.{Tellable, replyFrom, answerBy, Telling, telling, promised-read}
+
+-- ---- what checks refuse has a number above 0
+
+unfoldable numbered : List Check → Bool
+numbered [] = true
+numbered (c ∷ cs) = ltb 0 (c .1) && numbered cs
+
+append-numbered : (xs ys : List Check) → numbered xs ≡ true → numbered ys ≡ true → numbered (xs ++ ys) ≡ true
+unfolding numbered
+append-numbered [] ys a b = b
+append-numbered (c ∷ cs) ys a b =
+    let both = and-true (ltb 0 (c .1)) (numbered cs) a in
+    rw (both .0) (append-numbered cs ys (both .1) b)
+
+each-numbered : (f : ℕ → List Check) → ((k : ℕ) → numbered (f k) ≡ true) → (i left : ℕ) → numbered (eachCheck f i left) ≡ true
+unfolding eachCheck numbered
+each-numbered f h i zero = refl
+each-numbered f h i (suc left) = append-numbered (f i) (eachCheck f (i + 1) left) (h i) (each-numbered f h (i + 1) left)
+
+fault-told : (f : Fault) (o : Outcome) → Tellable (replyOf (unless f o)) → (cs : List Check) → numbered cs ≡ true → Tellable (replyOf o)
+    → Tellable (replyOf (unless (faultAfter f cs) o))
+unfolding faultAfter orCheck unless replyOf Tellable numbered
+fault-told f o h [] e t = h
+fault-told (At number place) o h (c ∷ cs) e t = fault-told (At number place) o h cs (and-true (ltb 0 (c .1)) (numbered cs) e .1) t
+fault-told None o h ((true, number, place) ∷ cs) e t =
+    let both = and-true (ltb 0 number) (numbered cs) e in
+    fault-told (At number place) o (ltb-true _ _ (both .0)) cs (both .1) t
+fault-told None o h ((false, number, place) ∷ cs) e t = fault-told None o t cs (and-true (ltb 0 number) (numbered cs) e .1) t
+
+answered-told : (cs : List Check) (o : Outcome) → numbered cs ≡ true → Tellable (replyOf o) → Tellable (replyOf (answered cs o))
+unfolding unless
+answered-told cs o e t = fault-told None o t cs e t
+
+done-told : (xs ys : List ℕ) → length xs ≤ valuePlaces → Tellable (replyOf (done xs ys))
+unfolding Tellable replyOf
+done-told xs ys h = h
+
+-- ---- each job
+
+list-numbered : (ws : List ℕ) → numbered (listChecks ws) ≡ true
+unfolding numbered
+list-numbered ws =
+    let pairs-numbered = each-numbered (pairChecks ws (registers ws)) (λ k. refl) 0 (pairCount ws) in
+    append-numbered (headChecks (word ws 0) (length ws)) (bodyChecks ws (registers ws) (pairCount ws)) refl
+    (append-numbered (eachCheck (pairChecks ws (registers ws)) 0 (pairCount ws)) (endChecks ws (pairPlace (pairCount ws))) pairs-numbered refl)
+
+-- the checks of the list, then those of the call
+list-then : (ws : List ℕ) (cs : List Check) (o : Outcome) → numbered cs ≡ true → Tellable (replyOf o)
+    → Tellable (replyOf (answered (listChecks ws ++ cs) o))
+list-then ws cs o e t = answered-told (listChecks ws ++ cs) o (append-numbered (listChecks ws) cs (list-numbered ws) e) t
+
+pub read-told : (ws : List ℕ) (room : ℕ) → Tellable (replyOf (reading ws room))
+unfolding reading numbered
+read-told ws room = list-then ws _ _ refl (done-told _ _ (omega arith))
+
+pub write-told : (n : ℕ) (xs : List ℕ) (room : ℕ) → Tellable (replyOf (writing n xs room))
+unfolding writing numbered
+write-told n xs room =
+    let pairs-numbered = each-numbered (givenChecks n xs) (λ k. refl) 0 (givenCount xs) in
+    answered-told (writeChecks n xs room) _
+    (append-numbered (countChecks n (length xs)) (givenBody n xs (givenCount xs) room) refl
+    (append-numbered (eachCheck (givenChecks n xs) 0 (givenCount xs)) ((ltb room (pairPlace (givenCount xs) + 1), 2, 0) ∷ []) pairs-numbered refl))
+    (done-told _ _ (omega arith))
+
+few : (b : Bool) (x y : ℕ) → length (cond b (x ∷ y ∷ []) []) ≤ valuePlaces
+few true x y = omega arith
+few false x y = omega arith
+
+pub check-told : (ws : List ℕ) (t : ℕ) (s : List ℕ) → Tellable (replyOf (checking ws t s))
+unfolding checking found numbered
+check-told ws t s =
+    let k = firstBroken ws t s in
+    list-then ws _ _ refl (done-told _ _ (few (ltb k (pairCount ws)) k (brokenRule ws t s k)))
+
+pub free-told : (ws : List ℕ) (room : ℕ) → Tellable (replyOf (freeing ws room))
+unfolding freeing numbered
+free-told ws room = list-then ws _ _ refl (done-told _ _ (omega arith))
+
+shown-told : (offset : ℕ) (f : Found) → Tellable (replyOf (splitOutcome offset f))
+unfolding splitOutcome
+shown-told offset Found.nothing = done-told _ _ (omega arith)
+shown-told offset (Found.found c) = done-told _ _ (omega arith)
+
+pub split-told : (ws : List ℕ) (period offset room spare : ℕ) → Tellable (replyOf (splitting ws period offset room spare))
+unfolding splitting numbered
+split-told ws period offset room spare = list-then ws _ _ refl (shown-told offset (firstSplit (registers ws) period offset (pairs ws)))
+
+pub plan-told : (ws : List ℕ) (room spare : ℕ) → Tellable (replyOf (planning ws room spare))
+unfolding planning numbered
+plan-told ws room spare = list-then ws _ _ refl (done-told _ _ (omega arith))
+
+-- ---- the answer from its numbers, and what a caller reads
+
+unfoldable pub readAnswer : Reply → Reading
+readAnswer = answerBy NotRead (λ xs. Read (getD xs 0 0) (getD xs 1 0))
+
+pub read-telling : {ws was now : List ℕ} → Telling readReply readAnswer (ReadAs ws was now)
+unfolding readReply readAnswer answerBy
+read-telling {ws} {was} =
+    telling (elim [ Read n m ↦ refl | NotRead number place ↦ refl ]) (read-told ws (length was)) (λ a p. p .reply)
+
+unfoldable pub writeAnswer : Reply → Writing
+writeAnswer = answerBy NotWritten (λ xs. Written (getD xs 0 0))
+
+pub write-telling : {n : ℕ} {xs was now : List ℕ} → Telling writeReply writeAnswer (WrittenAs n xs was now)
+unfolding writeReply writeAnswer answerBy
+write-telling {n} {xs} {was} =
+    telling (elim [ Written count ↦ refl | NotWritten number place ↦ refl ]) (write-told n xs (length was)) (λ a p. p .reply)
+
+unfoldable pub checkAnswer : Reply → Checking
+checkAnswer = answerBy NotChecked (λ xs. cond (eqb (length xs) 0) Admissible (Broken (getD xs 0 0) (cond (eqb (getD xs 1 0) 0) Setup Hold)))
+
+pub check-telling : {ws : List ℕ} {t : ℕ} {s : List ℕ} → Telling checkReply checkAnswer (CheckedAs ws t s)
+unfolding checkReply checkAnswer answerBy ruleNumber
+check-telling {ws} {t} {s} =
+    telling (elim [ Admissible ↦ refl | Broken k rule ↦ elim rule [ Setup ↦ refl | Hold ↦ refl ] | NotChecked number place ↦ refl ])
+    (check-told ws t s) (λ a p. p .reply)
+
+unfoldable pub freeAnswer : Reply → FreeAnswer
+freeAnswer = answerBy NotFreed (λ xs. Periods (getD xs 0 0) (getD xs 1 0))
+
+pub free-telling : {ws was now : List ℕ} → Telling freeReply freeAnswer (FreeAs ws was now)
+unfolding freeReply freeAnswer answerBy
+free-telling {ws} {was} =
+    telling (elim [ Periods common free ↦ refl | NotFreed number place ↦ refl ]) (free-told ws (length was)) (λ a p. p .reply)
+
+unfoldable pub splitAnswer : Reply → Splitting
+splitAnswer = answerBy NotSplit (λ xs. cond (eqb (getD xs 0 0) 0) NoSplit Split)
+
+pub split-telling : {ws : List ℕ} {period offset : ℕ} {answer answer′ scratch scratch′ : List ℕ}
+    → Telling splitReply splitAnswer (SplitAs ws period offset answer answer′ scratch scratch′)
+unfolding splitReply splitAnswer answerBy
+split-telling {ws} {period} {offset} {answer} {scratch = scratch} =
+    telling (elim [ Split ↦ refl | NoSplit ↦ refl | NotSplit number place ↦ refl ])
+    (split-told ws period offset (length answer) (length scratch)) (λ a p. p .reply)
+
+unfoldable pub planAnswer : Reply → Planning
+planAnswer = answerBy NotPlanned (λ xs. Planned (getD xs 0 0) (getD xs 1 0) (getD xs 2 0) (getD xs 3 0))
+
+pub plan-telling : {ws answer answer′ scratch scratch′ : List ℕ} → Telling planReply planAnswer (PlanAs ws answer answer′ scratch scratch′)
+unfolding planReply planAnswer answerBy
+plan-telling {ws} {answer} {scratch = scratch} =
+    telling (elim [ Planned common free two offset ↦ refl | NotPlanned number place ↦ refl ])
+    (plan-told ws (length answer) (length scratch)) (λ a p. p .reply)
+
+-- ---- for one, what a caller of the plan has
+
+module _ {ws answer answer′ scratch scratch′ : List ℕ} where
+  -- the numbers are those of the definition, for every input
+  pub plan-numbers : {r : ℕ} {reply : List ℕ} → AnswerCoded planReply (PlanAs ws answer answer′ scratch scratch′) r reply
+      → Coded (replyOf (planning ws (length answer) (length scratch))) r reply
+  plan-numbers w = coded-reply w (w .promised .reply)
+
+  -- who is told a result of four values has the job's record of these
+  pub plan-read : {common free two offset : ℕ}
+      → AnswerCoded planReply (PlanAs ws answer answer′ scratch scratch′) resultStatus (valuePlaces ∷ common ∷ free ∷ two ∷ offset ∷ [])
+      → PlanAs ws answer answer′ scratch scratch′ (Planned common free two offset)
+  unfolding replyFrom planAnswer answerBy
+  plan-read w = promised-read plan-telling w
