@@ -1,4 +1,13 @@
 // A tally of what came of many runs.
+// The most that is counted.
+const MOST: u32 = 1_000_000;
+
+// The next seed of a run, and how one list fared.
+pub struct Turn {
+    pub seed: u64,
+    pub fate: u32,
+}
+
 // How many runs had fate 0, fate 1, and any other.
 pub struct Tally {
     pub zeros: u32,
@@ -7,7 +16,7 @@ pub struct Tally {
 }
 
 fn more(x: u32) -> u32 {
-    if x < 1_000_000 { x + 1 } else { x }
+    if x < MOST { x + 1 } else { x }
 }
 
 impl Tally {

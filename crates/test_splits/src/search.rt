@@ -10,7 +10,15 @@ use test_kit::random;
 use test_kit::rules;
 use test_kit::show;
 use test_kit::tally::Tally;
+use test_kit::tally::Turn;
 ghost use Prim.Native.Nat.{_≤_};
+ghost use Rattle.timing.specs.Limits.{maxPairs, maxRegisters};
+
+// The longest period and the largest offset that are tried.
+const MOST: u32 = 15;
+
+// How many random lists there are.
+const LISTS: u32 = 500;
 
 // Whether the answer is right: the split or the buffer as it was, and the scratch zero where it was used.
 fn right(
@@ -37,8 +45,8 @@ fn right(
 
 // One period and one offset.
 fn tried(words: &[u32], numbers: &[u32], n: usize, m: usize, period: u32, offset: u32) -> bool
-    requires { ⌜ m ≤ 2048 ⌝ }
-    requires { ⌜ n ≤ 512 ⌝ }
+    requires { ⌜ m ≤ maxPairs ⌝ }
+    requires { ⌜ n ≤ maxRegisters ⌝ }
 {
     let mut answer = [DIRT; 6];
     let mut scratch = [DIRT; 50];
@@ -50,11 +58,11 @@ fn tried(words: &[u32], numbers: &[u32], n: usize, m: usize, period: u32, offset
 
 // Every offset at one period.
 fn offsets(words: &[u32], numbers: &[u32], n: usize, m: usize, period: u32) -> bool
-    requires { ⌜ m ≤ 2048 ⌝ }
-    requires { ⌜ n ≤ 512 ⌝ }
+    requires { ⌜ m ≤ maxPairs ⌝ }
+    requires { ⌜ n ≤ maxRegisters ⌝ }
 {
     let mut offset: u32 = 0;
-    while offset <= 15 {
+    while offset <= MOST {
         if !tried(words, numbers, n, m, period, offset) {
             return false;
         }
@@ -65,11 +73,11 @@ fn offsets(words: &[u32], numbers: &[u32], n: usize, m: usize, period: u32) -> b
 
 // Every period: 1 if all is right, else 2.
 fn periods(words: &[u32], numbers: &[u32], n: usize, m: usize) -> u32
-    requires { ⌜ m ≤ 2048 ⌝ }
-    requires { ⌜ n ≤ 512 ⌝ }
+    requires { ⌜ m ≤ maxPairs ⌝ }
+    requires { ⌜ n ≤ maxRegisters ⌝ }
 {
     let mut period: u32 = 1;
-    while period <= 15 {
+    while period <= MOST {
         if !offsets(words, numbers, n, m, period) {
             return 2;
         }
@@ -78,13 +86,7 @@ fn periods(words: &[u32], numbers: &[u32], n: usize, m: usize) -> u32
     1
 }
 
-// The next seed, and how one list fared: 1 right, 2 wrong.
-pub struct Turn {
-    pub seed: u64,
-    pub fate: u32,
-}
-
-// A random list of up to four registers and five pairs with delays up to twelve.
+// A random list of up to four registers and five pairs with delays up to twelve. Fate 1 is right, 2 wrong.
 fn one(seed: u64) -> Turn {
     let mut numbers = [0u32; 20];
     let mut words = [0u32; 20];
@@ -106,7 +108,7 @@ fn many() -> Tally {
     };
     let mut seed: u64 = 5;
     let mut i: u32 = 0;
-    while i < 500 {
+    while i < LISTS {
         let t = one(seed);
         tally = tally.with(t.fate);
         seed = t.seed;
