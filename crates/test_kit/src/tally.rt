@@ -1,4 +1,6 @@
 // A tally of what came of many runs.
+use crate::show;
+
 // The most that is counted.
 const MOST: u32 = 1_000_000;
 
@@ -20,6 +22,15 @@ fn more(x: u32) -> u32 {
 }
 
 impl Tally {
+    // No run yet.
+    pub fn none() -> Tally {
+        Tally {
+            zeros: 0,
+            ones: 0,
+            others: 0,
+        }
+    }
+
     // One run more.
     pub fn with(self, fate: u32) -> Tally {
         let mut next = self;
@@ -33,5 +44,12 @@ impl Tally {
         }
         next.others = more(self.others);
         next
+    }
+
+    // A line with how many were right, which is fate 1, and how many wrong.
+    pub fn tell(self, label: &[u8]) {
+        show::text(label);
+        show::count(self.ones, b" right, ");
+        show::count(self.others, b" wrong\n");
     }
 }

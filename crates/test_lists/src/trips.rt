@@ -125,11 +125,7 @@ fn fate(kind: u32, seed: u64, count: usize, words: &mut [u32]) -> u32 {
 
 // How random lists fare.
 fn lists(kind: u32) -> Tally {
-    let mut tally = Tally {
-        zeros: 0,
-        ones: 0,
-        others: 0,
-    };
+    let mut tally = Tally::none();
     let mut seed: u64 = 1;
     let mut i: u32 = 0;
     while i < LISTS {

@@ -133,11 +133,7 @@ fn fate(numbers: &[u32], n: usize, m: usize, words: &[u32], checking: bool) -> u
 }
 
 fn lists(checking: bool) -> Tally {
-    let mut tally = Tally {
-        zeros: 0,
-        ones: 0,
-        others: 0,
-    };
+    let mut tally = Tally::none();
     let mut seed: u64 = 3;
     let mut i: u32 = 0;
     while i < LISTS {
