@@ -1,5 +1,5 @@
 -- Setup and hold are rules of one kind: a list of pairs as a list of rules.
--- They are the two constraints of Fishburn 1990, written as sums so that no time is below 0.
+-- They are the two constraints of Fishburn 1990 (Kohira and Takahashi 2012, section 2), written without subtraction.
 use mathlib.Core.Bool.{true}
 use mathlib.Core.List.{List, [], _∷_}
 use mathlib.Core.Path.{_≡_}

@@ -1,6 +1,7 @@
 -- The least schedule that meets a list of rules: that it exists, that there is only one, and how late it can be.
 -- It exists because rounds from all zero raise the sum of the times, and stay below any times that meet the rules.
--- How late it can be follows from the crossing argument: a tight rule leads out of any set that holds the registers at 0.
+-- How late it can be follows from the crossing argument: a tight rule leads out of any set that holds the registers
+-- at 0 and leaves one out.
 use mathlib.Core.Bool.{Bool, true, false, false≢true}
 use mathlib.Core.List.{List, [], _∷_}
 use mathlib.Core.Logic.{_⊎_, inl, inr}

@@ -1,3 +1,4 @@
+-- The laws, which other crates may cite too.
 pub mod ConstraintList
 pub mod Sweep
 pub mod Count

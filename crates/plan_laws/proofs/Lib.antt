@@ -1,3 +1,4 @@
+-- The laws, which other crates may cite too.
 pub mod OffsetLaws
 pub mod TwoLaws
 pub mod UnbeatenLaws

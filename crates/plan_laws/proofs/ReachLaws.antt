@@ -1,6 +1,7 @@
 -- Reaches: what each pair lets one raise, and that reaches which rise no further give the least period and the first split.
--- At period t and offset top - t a pair leaves few choices (`Asks`). Read upwards, from what every split that works must
--- choose, this says what raises a reach; read at reaches that no pair raises, that late above t is a split that works.
+-- At period t and offset top - t each of the four choices of a pair asks one inequality of t (`Asks`). Where a choice that
+-- the reaches leave open fails it, a reach may be raised; where no pair raises any, the split that is late where the reach
+-- is above t makes no choice that fails.
 use mathlib.Core.Path.{_≡_, refl, ap, sym, _∙_, subst}
 use mathlib.Core.Bool.{Bool, true, false, false≢true}
 use mathlib.Core.List.{List, [], _∷_}

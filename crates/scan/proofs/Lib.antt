@@ -1,3 +1,4 @@
+-- The laws, which other crates may cite too.
 pub mod CaseLaws
 pub mod StateLaws
 pub mod ScanLaws

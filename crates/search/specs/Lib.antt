@@ -1,1 +1,2 @@
+-- The definitions, which the laws of other crates cite.
 pub mod Search

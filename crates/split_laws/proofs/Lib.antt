@@ -1,3 +1,4 @@
+-- The laws, which other crates may cite too.
 pub mod FirstLaws
 pub mod FoundLaws
 pub mod TimingsLaws

@@ -1,4 +1,5 @@
-// What the test programs share: numbers that look random, lists, buffers, lines of text, and a tally.
+// What the test programs share: sizes, numbers that look random, lists, buffers, lines of text, and a tally.
+pub mod largest;
 pub mod lists;
 pub mod places;
 pub mod random;

@@ -1,11 +1,17 @@
 // Numbers that look random, and lists of them.
-ghost use Prim.Native.Nat.{_<_, _≤_};
+ghost use Prim.Native.Nat.{_-_, _^_, _<_, _≤_};
+ghost use Rattle.timing.specs.Limits.{maxPairs};
 
-// The next number of the run: below 2^31 - 1.
+// The numbers are those below this, 2^31 - 1; the factor takes one to the next.
+const MODULUS: u64 = 0x7FFF_FFFF;
+
+const FACTOR: u64 = 48_271;
+
+// The next number of the run.
 pub fn next(seed: u64) -> u64
-    ensures { λ r. ⌜ r < 2147483647 ⌝ }
+    ensures { λ r. ⌜ r < 2 ^ 31 - 1 ⌝ }
 {
-    (seed % 2147483647) * 48271 % 2147483647
+    (seed % MODULUS) * FACTOR % MODULUS
 }
 
 // A number from 0 to most.
@@ -49,7 +55,7 @@ fn pair(seed: u64, last: u32, most: u32, at: usize, numbers: &mut [u32]) -> u64 
 
 // The numbers of `m` pairs. The answer is the next seed.
 pub fn pairs(seed: u64, last: u32, most: u32, m: usize, numbers: &mut [u32]) -> u64
-    requires { ⌜ m ≤ 2048 ⌝ }
+    requires { ⌜ m ≤ maxPairs ⌝ }
 {
     let mut s = seed;
     let mut k = 0;

@@ -1,5 +1,10 @@
 // The rules of a list straight from its numbers, and schedules counted through one by one.
 ghost use Prim.Native.Nat.{_≤_};
+ghost use Rattle.timing.specs.Limits.{maxPairs};
+use timing::MAX_PAIRS;
+
+// The splits of the six registers that are searched at the most.
+const SPLITS: u32 = 64;
 
 // The number at a place, or 0.
 pub fn at(xs: &[u32], i: usize) -> u32 {
@@ -9,9 +14,9 @@ pub fn at(xs: &[u32], i: usize) -> u32 {
     0
 }
 
-// Number j of pair k.
+// Number j of pair k, of as many pairs as a list can have.
 fn number(numbers: &[u32], k: usize, j: usize) -> u32 {
-    at(numbers, 4 * (k % 4096) + j % 4)
+    at(numbers, 4 * (k % MAX_PAIRS) + j % 4)
 }
 
 fn setup(numbers: &[u32], k: usize, period: u32, s: &[u32]) -> bool {
@@ -28,7 +33,7 @@ fn hold(numbers: &[u32], k: usize, s: &[u32]) -> bool {
 
 // The first pair that breaks a rule, twice over, and one more if only hold is broken; twice m if there is none.
 pub fn broken(numbers: &[u32], m: usize, period: u32, s: &[u32]) -> usize
-    requires { ⌜ m ≤ 2048 ⌝ }
+    requires { ⌜ m ≤ maxPairs ⌝ }
 {
     let mut k = 0;
     while k < m {
@@ -98,10 +103,10 @@ pub fn first_split(
     offset: u32,
     s: &mut [u32],
 ) -> bool
-    requires { ⌜ m ≤ 2048 ⌝ }
+    requires { ⌜ m ≤ maxPairs ⌝ }
 {
     let mut v: u32 = 0;
-    while v < 64 {
+    while v < SPLITS {
         timings(v, n, offset, s);
         if broken(numbers, m, period, s) == 2 * m {
             return true;

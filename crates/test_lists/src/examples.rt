@@ -58,8 +58,14 @@ pub fn refused_lists() {
 
 // One pair of n registers in three words, with the right head and end.
 fn pair(label: &[u8], n: u32, pair: u32, least: u32, greatest: u32) {
-    let mut list = [words::head_word(n % 1024, 1), pair, least, greatest, 0];
-    list[4] = words::word_of(7, words::end_payload(&list, 4));
+    let mut list = [
+        words::head_word(n % (timing::MAX_REGISTERS + 1), 1),
+        pair,
+        least,
+        greatest,
+        0,
+    ];
+    list[4] = words::word_of(words::KIND_END, words::end_payload(&list, 4));
     read(label, &list);
 }
 

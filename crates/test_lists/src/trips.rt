@@ -1,6 +1,7 @@
 // Write then read, and read then write, on random lists; then lists with damaged words.
 use list_format::Reading;
 use list_format::Writing;
+use test_kit::largest;
 use test_kit::places::dirty;
 use test_kit::places::front;
 use test_kit::places::kept;
@@ -8,6 +9,13 @@ use test_kit::places::same;
 use test_kit::random;
 use test_kit::show;
 use test_kit::tally::Tally;
+use test_kit::tally::Turn;
+
+// Places enough for the numbers, and for the words, of six pairs.
+const SMALL: usize = 24;
+
+// How many random lists there are.
+const LISTS: u32 = 2_000;
 
 // Writes the list of n registers and these numbers and reads it back: the same, and later places kept.
 // The answer is the count of words, or 0 if anything is wrong.
@@ -89,17 +97,11 @@ fn damage(kind: u32, seed: u64, words: &mut [u32], count: usize) {
     change(words, count, random::next(seed), down(kind, by));
 }
 
-// The next seed, and how one list fared.
-pub struct Turn {
-    pub seed: u64,
-    pub fate: u32,
-}
-
 // A random list of up to eight registers and six pairs, there and back, then damaged and read again.
 fn one(kind: u32, seed: u64) -> Turn {
-    let mut numbers = [0u32; 24];
-    let mut words = [0u32; 24];
-    let mut back = [0u32; 24];
+    let mut numbers = [0u32; SMALL];
+    let mut words = [0u32; SMALL];
+    let mut back = [0u32; SMALL];
     let last = random::up_to(seed, 7);
     let m = random::up_to(random::next(seed), 6) as usize;
     let next = random::pairs(seed, last, timing::MAX_DELAY, m, &mut numbers);
@@ -112,8 +114,8 @@ fn one(kind: u32, seed: u64) -> Turn {
 
 // A list of `count` words, damaged and read again; wrong if there is none.
 fn fate(kind: u32, seed: u64, count: usize, words: &mut [u32]) -> u32 {
-    let mut back = [0u32; 24];
-    let mut again = [0u32; 24];
+    let mut back = [0u32; SMALL];
+    let mut again = [0u32; SMALL];
     if count == 0 {
         return 2;
     }
@@ -121,16 +123,12 @@ fn fate(kind: u32, seed: u64, count: usize, words: &mut [u32]) -> u32 {
     back_and_there(front(words, count), &mut back, &mut again)
 }
 
-// Two thousand lists.
+// How random lists fare.
 fn lists(kind: u32) -> Tally {
-    let mut tally = Tally {
-        zeros: 0,
-        ones: 0,
-        others: 0,
-    };
+    let mut tally = Tally::none();
     let mut seed: u64 = 1;
     let mut i: u32 = 0;
-    while i < 2000 {
+    while i < LISTS {
         let t = one(kind, seed);
         tally = tally.with(t.fate);
         seed = t.seed;
@@ -139,7 +137,7 @@ fn lists(kind: u32) -> Tally {
     tally
 }
 
-// Two thousand random lists, and how they fared.
+// Random lists, and how they fared.
 pub fn small(label: &[u8], kind: u32) {
     let t = lists(kind);
     show::text(label);
@@ -150,17 +148,23 @@ pub fn small(label: &[u8], kind: u32) {
 
 // A list of the largest size there and back, and then with one place too few.
 pub fn largest() {
-    let mut numbers = [0u32; 8192];
-    let mut words = [0u32; 6146];
-    let mut back = [0u32; 8192];
-    random::pairs(7, 511, timing::MAX_DELAY, 2048, &mut numbers);
+    let mut numbers = [0u32; largest::NUMBERS];
+    let mut words = [0u32; largest::WORDS];
+    let mut back = [0u32; largest::NUMBERS];
+    random::pairs(
+        7,
+        largest::LAST_REGISTER,
+        timing::MAX_DELAY,
+        largest::PAIRS,
+        &mut numbers,
+    );
     show::text(b"512 registers, 2048 pairs, words there and back: ");
-    show::number(there_and_back(512, &numbers, &mut words, &mut back) as u64);
+    show::number(there_and_back(largest::REGISTERS, &numbers, &mut words, &mut back) as u64);
     too_short(&numbers);
 }
 
 fn too_short(numbers: &[u32]) {
-    let mut words = [0u32; 6145];
+    let mut words = [0u32; largest::WORDS - 1];
     show::text(b"; in one place less: ");
-    crate::show::writing(write_list::write(512, numbers, &mut words));
+    crate::show::writing(write_list::write(largest::REGISTERS, numbers, &mut words));
 }

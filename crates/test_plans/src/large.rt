@@ -1,5 +1,6 @@
 // Plans of the largest size: 512 registers and 2,048 pairs.
 use planner::Planning;
+use test_kit::largest;
 use test_kit::lists::list;
 use test_kit::random;
 use test_kit::show;
@@ -19,34 +20,46 @@ fn show_plan(r: Planning) {
 
 // The plan of a random list with delays up to `most`.
 fn plan(label: &[u8], seed: u64, most: u32) {
-    let mut numbers = [0u32; 8192];
-    let mut words = [0u32; 6146];
-    random::pairs(seed, 511, most, 2048, &mut numbers);
-    list(512, &numbers, &mut words);
+    let mut numbers = [0u32; largest::NUMBERS];
+    let mut words = [0u32; largest::WORDS];
+    random::pairs(
+        seed,
+        largest::LAST_REGISTER,
+        most,
+        largest::PAIRS,
+        &mut numbers,
+    );
+    list(largest::REGISTERS, &numbers, &mut words);
     show::text(label);
     planned(&words);
 }
 
 fn planned(words: &[u32]) {
-    let mut answer = [0u32; 1024];
-    let mut scratch = [0u32; 11264];
+    let mut answer = [0u32; largest::ANSWER];
+    let mut scratch = [0u32; largest::SCRATCH];
     show_plan(planner::plan(words, &mut answer, &mut scratch));
 }
 
 // With one place of scratch too few.
 fn short(seed: u64) {
-    let mut numbers = [0u32; 8192];
-    let mut words = [0u32; 6146];
-    let mut answer = [0u32; 1024];
-    let mut scratch = [0u32; 11263];
-    random::pairs(seed, 511, 1000, 2048, &mut numbers);
-    list(512, &numbers, &mut words);
+    let mut numbers = [0u32; largest::NUMBERS];
+    let mut words = [0u32; largest::WORDS];
+    let mut answer = [0u32; largest::ANSWER];
+    let mut scratch = [0u32; largest::SCRATCH - 1];
+    random::pairs(
+        seed,
+        largest::LAST_REGISTER,
+        1_000,
+        largest::PAIRS,
+        &mut numbers,
+    );
+    list(largest::REGISTERS, &numbers, &mut words);
     show::text(b"one place of scratch less: ");
     show_plan(planner::plan(&words, &mut answer, &mut scratch));
 }
 
 pub fn lists() {
     plan(b"512 registers, 2048 pairs, delays to 1000: ", 17, 1_000);
-    plan(b"delays to 1000000: ", 19, 1_000_000);
+    plan(b"delays to 1000000: ", 19, timing::MAX_DELAY);
     short(17);
 }

@@ -9,13 +9,23 @@ use test_kit::places::same;
 use test_kit::places::zero;
 use test_kit::random;
 use test_kit::rules;
-use test_kit::show;
 use test_kit::tally::Tally;
-ghost use Prim.Native.Nat.{_≤_};
+use test_kit::tally::Turn;
+ghost use Prim.Native.Nat.{_*_, _≤_};
+ghost use Rattle.timing.specs.Limits.{maxPairs, maxRegisters};
+
+// The largest offset that is tried, in halves of a picosecond.
+const MOST_OFFSET: u32 = 20;
+
+// All times here are far below this, so that they can be doubled.
+const TIMES: u32 = 1_024;
+
+// How many random lists there are.
+const LISTS: u32 = 1_000;
 
 // All delays counted in halves.
 fn doubled(numbers: &[u32], m: usize, halves: &mut [u32])
-    requires { ⌜ m ≤ 2048 ⌝ }
+    requires { ⌜ m ≤ maxPairs ⌝ }
 {
     let mut k = 0;
     while k < m {
@@ -25,10 +35,10 @@ fn doubled(numbers: &[u32], m: usize, halves: &mut [u32])
 }
 
 fn double(numbers: &[u32], at: usize, halves: &mut [u32])
-    requires { ⌜ at ≤ 8192 ⌝ }
+    requires { ⌜ at ≤ 4 * maxPairs ⌝ }
 {
-    let least = rules::at(numbers, at + 2) % 1024;
-    let greatest = rules::at(numbers, at + 3) % 1024;
+    let least = rules::at(numbers, at + 2) % TIMES;
+    let greatest = rules::at(numbers, at + 3) % TIMES;
     random::put(
         halves,
         at,
@@ -39,27 +49,27 @@ fn double(numbers: &[u32], at: usize, halves: &mut [u32])
     );
 }
 
-// The least offset up to twenty halves for which some split works at a period, both in halves; twenty-one if none does.
+// The least offset for which some split works at a period, both in halves; one more than the largest if none does.
 fn least_offset(halves: &[u32], n: usize, m: usize, period: u32, s: &mut [u32]) -> u32
-    requires { ⌜ m ≤ 2048 ⌝ }
+    requires { ⌜ m ≤ maxPairs ⌝ }
 {
     let mut offset: u32 = 0;
-    while offset <= 20 {
+    while offset <= MOST_OFFSET {
         if rules::first_split(halves, n, m, period, offset, s) {
             return offset;
         }
         offset += 1;
     }
-    21
+    MOST_OFFSET + 1
 }
 
 // Whether no split works at any period from 1 up to one less than this, in whole picoseconds.
 fn none_below(halves: &[u32], n: usize, m: usize, period: u32, s: &mut [u32]) -> bool
-    requires { ⌜ m ≤ 2048 ⌝ }
+    requires { ⌜ m ≤ maxPairs ⌝ }
 {
     let mut t: u32 = 1;
     while t < period {
-        if least_offset(halves, n, m, 2 * (t % 1024), s) <= 20 {
+        if least_offset(halves, n, m, 2 * (t % TIMES), s) <= MOST_OFFSET {
             return false;
         }
         t += 1;
@@ -69,7 +79,7 @@ fn none_below(halves: &[u32], n: usize, m: usize, period: u32, s: &mut [u32]) ->
 
 // Whether no rival has a shorter period, nor at this one a smaller offset.
 fn unbeaten(numbers: &[u32], n: usize, m: usize, two: u32, offset: u32) -> bool
-    requires { ⌜ m ≤ 2048 ⌝ }
+    requires { ⌜ m ≤ maxPairs ⌝ }
 {
     let mut halves = [0u32; 24];
     let mut s = [0u32; 6];
@@ -77,7 +87,7 @@ fn unbeaten(numbers: &[u32], n: usize, m: usize, two: u32, offset: u32) -> bool
     if !none_below(&halves, n, m, two, &mut s) {
         return false;
     }
-    least_offset(&halves, n, m, 2 * (two % 1024), &mut s) == 2 * (offset % 1024)
+    least_offset(&halves, n, m, 2 * (two % TIMES), &mut s) == 2 * (offset % TIMES)
 }
 
 // Whether the free timings are those of the free schedule, and the split's those of the first split.
@@ -91,8 +101,8 @@ fn shown(
     offset: u32,
     answer: &[u32],
 ) -> bool
-    requires { ⌜ m ≤ 2048 ⌝ }
-    requires { ⌜ n ≤ 512 ⌝ }
+    requires { ⌜ m ≤ maxPairs ⌝ }
+    requires { ⌜ n ≤ maxRegisters ⌝ }
 {
     let mut freely = [0u32; 6];
     let mut s = [0u32; 6];
@@ -118,8 +128,8 @@ fn back(s: &[u32], from: usize) -> &[u32] {
 
 // 1 if the plan of a list is right, else 2.
 fn right(words: &[u32], numbers: &[u32], n: usize, m: usize) -> u32
-    requires { ⌜ m ≤ 2048 ⌝ }
-    requires { ⌜ n ≤ 512 ⌝ }
+    requires { ⌜ m ≤ maxPairs ⌝ }
+    requires { ⌜ n ≤ maxRegisters ⌝ }
 {
     let mut answer = [DIRT; 14];
     let mut scratch = [DIRT; 64];
@@ -147,13 +157,7 @@ fn left(answer: &[u32], used: usize, scratch: &[u32], cleared: usize) -> u32 {
     if kept(scratch, cleared) { 1 } else { 2 }
 }
 
-// The next seed, and how one list fared: 1 right, 2 wrong.
-pub struct Turn {
-    pub seed: u64,
-    pub fate: u32,
-}
-
-// A random list of up to six registers and six pairs with delays up to nine.
+// A random list of up to six registers and six pairs with delays up to nine. Fate 1 is right, 2 wrong.
 fn one(seed: u64) -> Turn {
     let mut numbers = [0u32; 24];
     let mut words = [0u32; 20];
@@ -168,14 +172,10 @@ fn one(seed: u64) -> Turn {
 }
 
 fn many() -> Tally {
-    let mut tally = Tally {
-        zeros: 0,
-        ones: 0,
-        others: 0,
-    };
+    let mut tally = Tally::none();
     let mut seed: u64 = 11;
     let mut i: u32 = 0;
-    while i < 1000 {
+    while i < LISTS {
         let t = one(seed);
         tally = tally.with(t.fate);
         seed = t.seed;
@@ -185,8 +185,5 @@ fn many() -> Tally {
 }
 
 pub fn lists() {
-    let t = many();
-    show::text(b"plans of random lists against all splits and offsets in halves: ");
-    show::count(t.ones, b" right, ");
-    show::count(t.others, b" wrong\n");
+    many().tell(b"plans of random lists against all splits and offsets in halves: ");
 }

@@ -1,31 +1,43 @@
 // Chains and rings of 512 registers, along the list and against it.
 use crate::examples::show_free;
+use test_kit::largest;
 use test_kit::lists::list;
 use test_kit::places::front;
 use test_kit::random;
 use test_kit::show;
+use timing::MAX_DELAY;
 ghost use Prim.Native.Nat.{_<_, _≤_};
+ghost use Rattle.timing.specs.Limits.{maxRegisters};
+
+// The registers, the pairs of a chain of them, and the numbers and words of a ring.
+const RING: usize = largest::TIMINGS;
+
+const CHAIN: usize = RING - 1;
+
+const NUMBERS: usize = 4 * RING;
+
+const WORDS: usize = 3 * RING + 2;
 
 // The launch register of pair k of m: k, or from the other end.
 fn start(m: usize, k: usize, against: bool) -> usize
-    requires { ⌜ (k < m) × (m ≤ 512) ⌝ }
-    ensures { λ r. ⌜ r < 512 ⌝ }
+    requires { ⌜ (k < m) × (m ≤ maxRegisters) ⌝ }
+    ensures { λ r. ⌜ r < maxRegisters ⌝ }
 {
     if against { m - 1 - k } else { k }
 }
 
 // Pair k of m joins a register to the next one, around the ring.
 fn pair(m: usize, k: usize, against: bool, least: u32, greatest: u32, numbers: &mut [u32])
-    requires { ⌜ (k < m) × (m ≤ 512) ⌝ }
+    requires { ⌜ (k < m) × (m ≤ maxRegisters) ⌝ }
 {
     let from = start(m, k, against);
-    let to = (from + 1) % 512;
+    let to = (from + 1) % RING;
     random::put(numbers, 4 * k, from as u32, to as u32, least, greatest);
 }
 
 // The first `m` pairs, all with the same delays.
 fn pairs(m: usize, against: bool, least: u32, greatest: u32, numbers: &mut [u32])
-    requires { ⌜ m ≤ 512 ⌝ }
+    requires { ⌜ m ≤ maxRegisters ⌝ }
 {
     let mut k = 0;
     while k < m {
@@ -36,38 +48,38 @@ fn pairs(m: usize, against: bool, least: u32, greatest: u32, numbers: &mut [u32]
 
 // The free period of a list of `m` such pairs, and the first, the second and the last timing.
 fn free(label: &[u8], m: usize, against: bool, least: u32, greatest: u32)
-    requires { ⌜ m ≤ 512 ⌝ }
+    requires { ⌜ m ≤ maxRegisters ⌝ }
 {
-    let mut numbers = [0u32; 2048];
-    let mut words = [0u32; 1538];
-    let mut answer = [0u32; 512];
+    let mut numbers = [0u32; NUMBERS];
+    let mut words = [0u32; WORDS];
+    let mut answer = [0u32; RING];
     pairs(m, against, least, greatest, &mut numbers);
-    let count = list(512, front(&numbers, 4 * m), &mut words);
+    let count = list(largest::REGISTERS, front(&numbers, 4 * m), &mut words);
     show::text(label);
     show_free(free_schedule::free(front(&words, count), &mut answer));
-    show::numbers(&[answer[0], answer[1], answer[511]], 3);
+    show::numbers(&[answer[0], answer[1], answer[RING - 1]], 3);
 }
 
 pub fn chains() {
-    free(b"chain of 512, 9/9: ", 511, false, 9, 9);
-    free(b"the same against the list: ", 511, true, 9, 9);
+    free(b"chain of 512, 9/9: ", CHAIN, false, 9, 9);
+    free(b"the same against the list: ", CHAIN, true, 9, 9);
     free(
         b"chain of 512, 1000000/1000000: ",
-        511,
+        CHAIN,
         false,
-        1_000_000,
-        1_000_000,
+        MAX_DELAY,
+        MAX_DELAY,
     );
 }
 
 pub fn rings() {
-    free(b"ring of 512, 0/1000000: ", 512, false, 0, 1_000_000);
-    free(b"the same against the list: ", 512, true, 0, 1_000_000);
+    free(b"ring of 512, 0/1000000: ", RING, false, 0, MAX_DELAY);
+    free(b"the same against the list: ", RING, true, 0, MAX_DELAY);
     free(
         b"ring of 512, 1000000/1000000: ",
-        512,
+        RING,
         false,
-        1_000_000,
-        1_000_000,
+        MAX_DELAY,
+        MAX_DELAY,
     );
 }

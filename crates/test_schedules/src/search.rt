@@ -9,25 +9,38 @@ use test_kit::random;
 use test_kit::rules;
 use test_kit::show;
 use test_kit::tally::Tally;
+use test_kit::tally::Turn;
+use timing::MAX_PAIRS;
 ghost use Prim.Native.Nat.{_≤_};
+ghost use Rattle.timing.specs.Limits.{maxPairs};
 
-// The next seed, and how one list fared: 1 right, 2 wrong.
-pub struct Turn {
-    pub seed: u64,
-    pub fate: u32,
-}
+// How many random lists there are.
+const LISTS: u32 = 1_000;
+
+// The latest timing of the schedules that the search for a free schedule goes through.
+const LATEST: u32 = 10;
+
+// The period at which schedules are checked, the latest timing of these, and how many there are at the most.
+const PERIOD: u32 = 3;
+
+const LATEST_CHECKED: u32 = 4;
+
+const SCHEDULES: u32 = 1_000;
+
+// A number that the plain rules never give.
+const REFUSED: usize = 1_000_000;
 
 // Whether the search finds no schedule at a period.
 fn none(numbers: &[u32], n: usize, m: usize, period: u32) -> bool
-    requires { ⌜ m ≤ 2048 ⌝ }
+    requires { ⌜ m ≤ maxPairs ⌝ }
 {
     let mut s = [0u32; 3];
-    plain::searched(numbers, n, m, period, 10, &[0u32, 0, 0], &mut s) == 0
+    plain::searched(numbers, n, m, period, LATEST, &[0u32, 0, 0], &mut s) == 0
 }
 
 // Whether it finds none at any period from 1 up to one less.
 fn none_below(numbers: &[u32], n: usize, m: usize, period: u32) -> bool
-    requires { ⌜ m ≤ 2048 ⌝ }
+    requires { ⌜ m ≤ maxPairs ⌝ }
 {
     let mut t = 1;
     while t < period {
@@ -41,7 +54,7 @@ fn none_below(numbers: &[u32], n: usize, m: usize, period: u32) -> bool
 
 // Whether the free period and schedule are what the search finds.
 fn free_right(numbers: &[u32], n: usize, m: usize, words: &[u32]) -> u32
-    requires { ⌜ m ≤ 2048 ⌝ }
+    requires { ⌜ m ≤ maxPairs ⌝ }
 {
     let mut answer = [9u32; 3];
     let mut s = [0u32; 3];
@@ -54,33 +67,33 @@ fn free_right(numbers: &[u32], n: usize, m: usize, words: &[u32]) -> u32
     if rules::broken(numbers, m, free, &answer) < 2 * m {
         return 2;
     }
-    plain::searched(numbers, n, m, free, 10, &answer, &mut s)
+    plain::searched(numbers, n, m, free, LATEST, &answer, &mut s)
 }
 
 // What a check says, as the plain search numbers it.
 fn checked(words: &[u32], m: usize, period: u32, s: &[u32]) -> usize
-    requires { ⌜ m ≤ 2048 ⌝ }
+    requires { ⌜ m ≤ maxPairs ⌝ }
 {
     match checker::check(words, period, s) {
         Checking::Admissible => 2 * m,
-        Checking::Refused(_, _) => 1_000_000,
+        Checking::Refused(_, _) => REFUSED,
         Checking::Broken(k, rule) => match rule {
-            Rule::Setup => 2 * (k % 4096),
-            Rule::Hold => 2 * (k % 4096) + 1,
+            Rule::Setup => 2 * (k % MAX_PAIRS),
+            Rule::Hold => 2 * (k % MAX_PAIRS) + 1,
         },
     }
 }
 
 // Whether the check says of each schedule what the plain rules say.
 fn check_right(numbers: &[u32], n: usize, m: usize, words: &[u32], s: &mut [u32]) -> u32
-    requires { ⌜ m ≤ 2048 ⌝ }
+    requires { ⌜ m ≤ maxPairs ⌝ }
 {
-    let mut left: u32 = 1_000;
+    let mut left: u32 = SCHEDULES;
     while left > 0 {
-        if checked(words, m, 3, front(s, n)) != rules::broken(numbers, m, 3, s) {
+        if checked(words, m, PERIOD, front(s, n)) != rules::broken(numbers, m, PERIOD, s) {
             return 2;
         }
-        if !rules::advance(s, n, 4) {
+        if !rules::advance(s, n, LATEST_CHECKED) {
             return 1;
         }
         left -= 1;
@@ -89,6 +102,7 @@ fn check_right(numbers: &[u32], n: usize, m: usize, words: &[u32], s: &mut [u32]
 }
 
 // A random list of up to three registers and four pairs with delays up to five: its free schedule or the check of it.
+// Fate 1 is right, 2 wrong.
 fn one(seed: u64, checking: bool) -> Turn {
     let mut numbers = [0u32; 16];
     let mut words = [0u32; 16];
@@ -109,7 +123,7 @@ fn one(seed: u64, checking: bool) -> Turn {
 }
 
 fn fate(numbers: &[u32], n: usize, m: usize, words: &[u32], checking: bool) -> u32
-    requires { ⌜ m ≤ 2048 ⌝ }
+    requires { ⌜ m ≤ maxPairs ⌝ }
 {
     let mut s = [0u32; 3];
     if checking {
@@ -119,14 +133,10 @@ fn fate(numbers: &[u32], n: usize, m: usize, words: &[u32], checking: bool) -> u
 }
 
 fn lists(checking: bool) -> Tally {
-    let mut tally = Tally {
-        zeros: 0,
-        ones: 0,
-        others: 0,
-    };
+    let mut tally = Tally::none();
     let mut seed: u64 = 3;
     let mut i: u32 = 0;
-    while i < 1000 {
+    while i < LISTS {
         let t = one(seed, checking);
         tally = tally.with(t.fate);
         seed = t.seed;

@@ -1,25 +1,41 @@
 // Chains of 512 registers, along the list and against it: one late register makes all after it late.
 use crate::examples::show_split;
+use test_kit::largest;
 use test_kit::lists::list;
 use test_kit::random;
 use test_kit::show;
-ghost use Prim.Native.Nat.{_<_, _≤_};
+ghost use Prim.Native.Nat.{_+_, _<_, _≤_};
+ghost use Rattle.timing.specs.Limits.{maxRegisters};
 
-// The launch register of pair k of 511: k, or from the other end.
+// The pairs of a chain, and the numbers, words and places of scratch of its list.
+const CHAIN: usize = largest::TIMINGS - 1;
+
+const NUMBERS: usize = 4 * CHAIN;
+
+const WORDS: usize = 3 * CHAIN + 2;
+
+const SCRATCH: usize = 6 * largest::TIMINGS + NUMBERS;
+
+// The period and the offset at which the chain is split: its first pair's greatest delay is longer than the period.
+const PERIOD: u32 = 8;
+
+const OFFSET: u32 = 1;
+
+// The launch register of pair k of the chain: k, or from the other end.
 fn start(k: usize, against: bool) -> usize
-    requires { ⌜ k < 511 ⌝ }
-    ensures { λ r. ⌜ r < 511 ⌝ }
+    requires { ⌜ k + 1 < maxRegisters ⌝ }
+    ensures { λ r. ⌜ r + 1 < maxRegisters ⌝ }
 {
-    if against { 510 - k } else { k }
+    if against { CHAIN - 1 - k } else { k }
 }
 
-// The first pair of the chain has the greatest delay of 9, the others of 8.
+// The greatest delay of the chain's first pair takes the period and the offset, that of the others the period alone.
 fn greatest(from: usize) -> u32 {
-    if from == 0 { 9 } else { 8 }
+    if from == 0 { PERIOD + OFFSET } else { PERIOD }
 }
 
 fn pair(k: usize, against: bool, numbers: &mut [u32])
-    requires { ⌜ k < 511 ⌝ }
+    requires { ⌜ k + 1 < maxRegisters ⌝ }
 {
     let from = start(k, against);
     random::put(
@@ -27,30 +43,30 @@ fn pair(k: usize, against: bool, numbers: &mut [u32])
         4 * k,
         from as u32,
         from as u32 + 1,
-        8,
+        PERIOD,
         greatest(from),
     );
 }
 
 fn pairs(against: bool, numbers: &mut [u32]) {
     let mut k = 0;
-    while k < 511 {
+    while k < CHAIN {
         pair(k, against, numbers);
         k += 1;
     }
 }
 
-// The chain at period 8 and offset 1, and the timings of the first, the second and the last register.
+// The chain at the period and the offset, and the timings of the first, the second and the last register.
 fn chain(label: &[u8], against: bool) {
-    let mut numbers = [0u32; 2044];
-    let mut words = [0u32; 1535];
-    let mut answer = [9u32; 512];
-    let mut scratch = [9u32; 5116];
+    let mut numbers = [0u32; NUMBERS];
+    let mut words = [0u32; WORDS];
+    let mut answer = [9u32; largest::TIMINGS];
+    let mut scratch = [9u32; SCRATCH];
     pairs(against, &mut numbers);
-    list(512, &numbers, &mut words);
+    list(largest::REGISTERS, &numbers, &mut words);
     show::text(label);
-    show_split(split::split(&words, 8, 1, &mut answer, &mut scratch));
-    show::numbers(&[answer[0], answer[1], answer[511]], 3);
+    show_split(split::split(&words, PERIOD, OFFSET, &mut answer, &mut scratch));
+    show::numbers(&[answer[0], answer[1], answer[CHAIN]], 3);
 }
 
 pub fn chains() {

@@ -8,9 +8,16 @@ use test_kit::places::same;
 use test_kit::places::zero;
 use test_kit::random;
 use test_kit::rules;
-use test_kit::show;
 use test_kit::tally::Tally;
+use test_kit::tally::Turn;
 ghost use Prim.Native.Nat.{_≤_};
+ghost use Rattle.timing.specs.Limits.{maxPairs, maxRegisters};
+
+// The longest period and the largest offset that are tried.
+const MOST: u32 = 15;
+
+// How many random lists there are.
+const LISTS: u32 = 500;
 
 // Whether the answer is right: the split or the buffer as it was, and the scratch zero where it was used.
 fn right(
@@ -37,8 +44,8 @@ fn right(
 
 // One period and one offset.
 fn tried(words: &[u32], numbers: &[u32], n: usize, m: usize, period: u32, offset: u32) -> bool
-    requires { ⌜ m ≤ 2048 ⌝ }
-    requires { ⌜ n ≤ 512 ⌝ }
+    requires { ⌜ m ≤ maxPairs ⌝ }
+    requires { ⌜ n ≤ maxRegisters ⌝ }
 {
     let mut answer = [DIRT; 6];
     let mut scratch = [DIRT; 50];
@@ -50,11 +57,11 @@ fn tried(words: &[u32], numbers: &[u32], n: usize, m: usize, period: u32, offset
 
 // Every offset at one period.
 fn offsets(words: &[u32], numbers: &[u32], n: usize, m: usize, period: u32) -> bool
-    requires { ⌜ m ≤ 2048 ⌝ }
-    requires { ⌜ n ≤ 512 ⌝ }
+    requires { ⌜ m ≤ maxPairs ⌝ }
+    requires { ⌜ n ≤ maxRegisters ⌝ }
 {
     let mut offset: u32 = 0;
-    while offset <= 15 {
+    while offset <= MOST {
         if !tried(words, numbers, n, m, period, offset) {
             return false;
         }
@@ -65,11 +72,11 @@ fn offsets(words: &[u32], numbers: &[u32], n: usize, m: usize, period: u32) -> b
 
 // Every period: 1 if all is right, else 2.
 fn periods(words: &[u32], numbers: &[u32], n: usize, m: usize) -> u32
-    requires { ⌜ m ≤ 2048 ⌝ }
-    requires { ⌜ n ≤ 512 ⌝ }
+    requires { ⌜ m ≤ maxPairs ⌝ }
+    requires { ⌜ n ≤ maxRegisters ⌝ }
 {
     let mut period: u32 = 1;
-    while period <= 15 {
+    while period <= MOST {
         if !offsets(words, numbers, n, m, period) {
             return 2;
         }
@@ -78,13 +85,7 @@ fn periods(words: &[u32], numbers: &[u32], n: usize, m: usize) -> u32
     1
 }
 
-// The next seed, and how one list fared: 1 right, 2 wrong.
-pub struct Turn {
-    pub seed: u64,
-    pub fate: u32,
-}
-
-// A random list of up to four registers and five pairs with delays up to twelve.
+// A random list of up to four registers and five pairs with delays up to twelve. Fate 1 is right, 2 wrong.
 fn one(seed: u64) -> Turn {
     let mut numbers = [0u32; 20];
     let mut words = [0u32; 20];
@@ -99,14 +100,10 @@ fn one(seed: u64) -> Turn {
 }
 
 fn many() -> Tally {
-    let mut tally = Tally {
-        zeros: 0,
-        ones: 0,
-        others: 0,
-    };
+    let mut tally = Tally::none();
     let mut seed: u64 = 5;
     let mut i: u32 = 0;
-    while i < 500 {
+    while i < LISTS {
         let t = one(seed);
         tally = tally.with(t.fate);
         seed = t.seed;
@@ -116,8 +113,5 @@ fn many() -> Tally {
 }
 
 pub fn lists() {
-    let t = many();
-    show::text(b"random lists at 240 periods and offsets each, against all splits: ");
-    show::count(t.ones, b" right, ");
-    show::count(t.others, b" wrong\n");
+    many().tell(b"random lists at 240 periods and offsets each, against all splits: ");
 }

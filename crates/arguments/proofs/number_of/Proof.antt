@@ -8,10 +8,7 @@ pub number-of-spec : {M : Type 1} → statement M
 number-of-spec =
     tie.close
     (tie.spec
-    (λ c κs. search needs)
-    (λ c. search needs)
-    (λ c. search needs)
-    (λ c. search needs)
+    (λ c κs. search needs) (λ c. search needs) (λ c. search needs) (λ c. search needs)
     (λ c. argument-one (c .before .before .before .before .scan .ensures) (c .before .before .count .given .1) (c .if1 .taken))
     (λ c. argument-faulty (c .before .before .scan .ensures) (c .enum-told .given .1))
     (λ c. argument-more (c .before .before .before .before .scan .ensures) (c .before .before .count .given .1) (c .if1 .left)))

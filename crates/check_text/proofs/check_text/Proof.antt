@@ -17,12 +17,7 @@ pub check-text-spec : {M : Type 1} → statement M
 check-text-spec =
     tie.close
     (tie.spec
-    (λ c κs. search needs)
-    (λ c. search needs)
-    (λ c κs. search needs)
-    (λ c. search needs)
+    (λ c κs. search needs) (λ c. search needs) (λ c κs. search needs) (λ c. search needs)
     (λ c. stored-fits (c .before .before .before .before .scan .ensures) (c .before .before .count .given .1))
     (λ c. stored-lent (c .before .before .before .before .before .scan .ensures) (c .before .before .before .count .given .1))
-    (λ c κs. search needs)
-    returns
-    returns-2)
+    (λ c κs. search needs) returns returns-2)

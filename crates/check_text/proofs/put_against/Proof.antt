@@ -11,6 +11,5 @@ put-against-spec =
     (λ c κs. search needs)
     (λ c. loaded-fits _ (c .before .load .ensures))
     (λ c. loaded-size _ (c .before .before .load .ensures))
-    (λ c κs. search needs)
-    (λ c. search needs)
+    (λ c κs. search needs) (λ c. search needs)
     (λ c. rw (loaded-front _ (c .before .before .before .before .before .load .ensures)) at (c .before .before .put-checked .ensures)))

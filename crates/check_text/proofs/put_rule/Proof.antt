@@ -12,8 +12,7 @@ unfolding ruleWords ruleNumber
 put-rule-spec =
     tie.close
     (tie.spec
-    (λ c. search needs)
-    (λ c. search needs) (λ c κs. search needs) (λ c. search needs)
+    (λ c. search needs) (λ c. search needs) (λ c κs. search needs) (λ c. search needs)
     (λ c. search needs) (λ c κs. search needs) (λ c. search needs)
     (λ c. put-as (λ r. ruleWords (ruleNumber r)) ruleWidth (c .before .before .before .before .before .enum-told .given .1)
     (c .before .before .put-bytes .ensures) (omega arith))

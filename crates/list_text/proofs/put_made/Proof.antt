@@ -27,15 +27,7 @@ pub put-made-spec : {M : Type 1} → statement M
 put-made-spec =
     tie.close
     (tie.spec
-    (λ c. search needs)
-    (λ c κs. search needs)
-    (λ c. search needs)
-    (λ c κs. search needs)
-    (λ c. search needs)
+    (λ c. search needs) (λ c κs. search needs) (λ c. search needs) (λ c κs. search needs) (λ c. search needs)
     (λ c. written-room (c .before .before .before .before .before .write .ensures) (c .before .before .count .given .1))
     (λ c. written-size (c .before .before .before .before .before .before .write .ensures) (c .before .before .before .count .given .1))
-    put-bytes-requires
-    (λ c. search needs)
-    returns
-    (λ c. search needs)
-    returns-2)
+    put-bytes-requires (λ c. search needs) returns (λ c. search needs) returns-2)

@@ -27,17 +27,8 @@ pub put-words-spec : {M : Type 1} → statement M
 put-words-spec =
     tie.close
     (tie.spec
-    (λ c. search needs)
-    (λ c κs. search needs)
-    (λ c. search needs)
-    (λ c κs. search needs)
-    (λ c. search needs)
-    (λ c. search needs)
-    (λ c. search needs)
+    (λ c. search needs) (λ c κs. search needs) (λ c. search needs) (λ c κs. search needs) (λ c. search needs)
+    (λ c. search needs) (λ c. search needs)
     (λ c. read-room (c .before .before .before .before .before .read .ensures) (c .before .before .n .given .1))
     (λ c. read-size (c .before .before .before .before .before .before .read .ensures) (c .before .before .before .n .given .1))
-    put-list-requires
-    (λ c. search needs)
-    returns
-    (λ c. search needs)
-    returns-2)
+    put-list-requires (λ c. search needs) returns (λ c. search needs) returns-2)

@@ -38,18 +38,6 @@ pub put-text-spec : {M : Type 1} → statement M
 put-text-spec =
     tie.close
     (tie.spec
-    (λ c. search needs)
-    (λ c. search needs)
-    (λ c κs. search needs)
-    (λ c. search needs)
-    (λ c κs. search needs)
-    (λ c. search needs)
-    head-read
-    (λ c κs. search needs)
-    (λ c. search needs)
-    (λ c. search needs)
-    put-planned-requires
-    (λ c. search needs)
-    returns
-    (λ c. search needs)
-    returns-2)
+    (λ c. search needs) (λ c. search needs) (λ c κs. search needs) (λ c. search needs) (λ c κs. search needs)
+    (λ c. search needs) head-read (λ c κs. search needs) (λ c. search needs) (λ c. search needs)
+    put-planned-requires (λ c. search needs) returns (λ c. search needs) returns-2)

@@ -16,5 +16,4 @@ report-spec =
     (λ c κs. search needs)
     (λ c. loaded-fits _ (c .before .load .ensures))
     (λ c. loaded-size _ (c .before .before .load .ensures))
-    (λ c κs. search needs)
-    returns)
+    (λ c κs. search needs) returns)

@@ -29,8 +29,4 @@ pub scan-spec : {M : Type 1} → statement M
 scan-spec =
     tie.close
     (tie.spec
-    returns
-    (λ c κs. search needs)
-    turn-end-requires
-    returns-2
-    returns-3)
+    returns (λ c κs. search needs) turn-end-requires returns-2 returns-3)

@@ -36,17 +36,6 @@ pub put-free-words-spec : {M : Type 1} → statement M
 put-free-words-spec =
     tie.close
     (tie.spec
-    (λ c. search needs)
-    (λ c κs. search needs)
-    (λ c. search needs)
-    (λ c κs. search needs)
-    (λ c. search needs)
-    shared-slice-read-head-registers
-    (λ c κs. search needs)
-    (λ c. search needs)
-    (λ c. search needs)
-    put-free-requires
-    (λ c. search needs)
-    returns
-    (λ c. search needs)
-    returns-2)
+    (λ c. search needs) (λ c κs. search needs) (λ c. search needs) (λ c κs. search needs) (λ c. search needs)
+    shared-slice-read-head-registers (λ c κs. search needs) (λ c. search needs) (λ c. search needs)
+    put-free-requires (λ c. search needs) returns (λ c. search needs) returns-2)

@@ -42,23 +42,7 @@ pub put-split-words-spec : {M : Type 1} → statement M
 put-split-words-spec =
     tie.close
     (tie.spec
-    (λ c. search needs)
-    (λ c. search needs)
-    (λ c κs. search needs)
-    (λ c. search needs)
-    (λ c κs. search needs)
-    (λ c. search needs)
-    (λ c. search needs)
-    (λ c κs. search needs)
-    (λ c. search needs)
-    shared-slice-read-head-registers
-    (λ c κs. search needs)
-    (λ c. search needs)
-    (λ c. search needs)
-    put-split-requires
-    (λ c. search needs)
-    returns
-    (λ c. search needs)
-    returns-2
-    (λ c. search needs)
-    returns-3)
+    (λ c. search needs) (λ c. search needs) (λ c κs. search needs) (λ c. search needs) (λ c κs. search needs)
+    (λ c. search needs) (λ c. search needs) (λ c κs. search needs) (λ c. search needs)
+    shared-slice-read-head-registers (λ c κs. search needs) (λ c. search needs) (λ c. search needs)
+    put-split-requires (λ c. search needs) returns (λ c. search needs) returns-2 (λ c. search needs) returns-3)

@@ -8,12 +8,7 @@ pub free-schedule-of-spec : {M : Type 1} → statement M
 free-schedule-of-spec =
     tie.close
     (tie.spec
-    (λ c. search needs)
-    (λ c κs. search needs)
-    (λ c. search needs)
-    (λ c. search needs)
-    (λ c κs. search needs)
+    (λ c. search needs) (λ c κs. search needs) (λ c. search needs) (λ c. search needs) (λ c κs. search needs)
     (λ c. put-lent (c .free-text .ensures))
     (λ c. lent-size (c .before .free-text .ensures))
-    (λ c κs. search needs)
-    (λ c. search needs))
+    (λ c κs. search needs) (λ c. search needs))

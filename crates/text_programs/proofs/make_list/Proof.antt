@@ -10,18 +10,11 @@ pub make-list-spec : {M : Type 1} → statement M
 make-list-spec =
     tie.close
     (tie.spec
-    (λ c. search needs)
-    (λ c κs. search needs)
-    (λ c. search needs)
-    (λ c. search needs)
-    (λ c κs. search needs)
+    (λ c. search needs) (λ c κs. search needs) (λ c. search needs) (λ c. search needs) (λ c κs. search needs)
     (λ c. search needs)
     (λ c. put-lent (made-put (c .before .before .before .make .ensures) (ap countOf (c .before .count .given .1))))
     (λ c. lent-size (made-put (c .before .before .before .before .make .ensures) (ap countOf (c .before .before .count .given .1))))
-    (λ c κs. search needs)
-    (λ c. search needs)
+    (λ c κs. search needs) (λ c. search needs)
     (λ c. put-lent (made-put (c .before .before .before .make .ensures) (ap countOf (c .before .count2 .given .1))))
     (λ c. lent-size (made-put (c .before .before .before .before .make .ensures) (ap countOf (c .before .before .count2 .given .1))))
-    (λ c κs. search needs)
-    (λ c. search needs)
-    (λ c. search needs))
+    (λ c κs. search needs) (λ c. search needs) (λ c. search needs))

@@ -8,12 +8,7 @@ pub print-split-spec : {M : Type 1} → statement M
 print-split-spec =
     tie.close
     (tie.spec
-    (λ c. search needs)
-    (λ c κs. search needs)
-    (λ c. search needs)
-    (λ c. search needs)
-    (λ c κs. search needs)
+    (λ c. search needs) (λ c κs. search needs) (λ c. search needs) (λ c. search needs) (λ c κs. search needs)
     (λ c. put-lent (c .split-text .ensures))
     (λ c. lent-size (c .before .split-text .ensures))
-    (λ c κs. search needs)
-    (λ c. search needs))
+    (λ c κs. search needs) (λ c. search needs))

@@ -41,16 +41,6 @@ pub step-spec : {M : Type 1} → statement M
 step-spec =
     tie.close
     (tie.spec
-    returns
-    (λ c κs. search needs)
-    returns-2
-    (λ c κs. search needs)
-    end-line-requires
-    returns-3
-    (λ c κs. search needs)
-    returns-4
-    (λ c κs. search needs)
-    returns-5
-    (λ c. search needs)
-    (λ c κs. search needs)
+    returns (λ c κs. search needs) returns-2 (λ c κs. search needs) end-line-requires returns-3
+    (λ c κs. search needs) returns-4 (λ c κs. search needs) returns-5 (λ c. search needs) (λ c κs. search needs)
     returns-6)

@@ -1,3 +1,4 @@
+-- `dirty`: every store is in the buffer, whose length is kept. Invariant: that length, and i within it. What falls: length buffer - i.
 use native.Mathlib.Omega.{arith}
 use Prim.Native.Nat.{_≤_, _-_}
 use mathlib.Core.Path.{_≡_}

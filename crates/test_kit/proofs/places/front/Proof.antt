@@ -1,3 +1,4 @@
+-- `front`: the part that is lent lies in the buffer.
 use mathlib.Core.Path.{sym}
 use lib.Seq.{length-take-le}
 use borrow.Author.Needs.{needs}

@@ -1,3 +1,4 @@
+-- `kept`: every read is in the buffer, and the walk ends. It takes no invariant; what falls: length buffer - i.
 use Prim.Native.Nat.{_-_}
 use lib.ListN.{length}
 use borrow.Author.Needs.{needs}

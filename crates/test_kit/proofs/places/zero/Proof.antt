@@ -1,3 +1,4 @@
+-- `zero`: every read is in the buffer, and the walk ends. Invariant: i ≤ count. What falls: count - i.
 use Prim.Native.Nat.{_≤_, _-_}
 use borrow.Author.Needs.{needs}
 use Rattle.test_kit.proofs.places.zero.Statement.{statement}

@@ -1,3 +1,4 @@
+-- `up_to`: what is left over by most + 1 is at most `most`, and fits 32 bits.
 use native.Mathlib.Omega.{arith}
 use Prim.Native.Nat.{_+_}
 use native.Mathlib.Nat.{mod-lt}

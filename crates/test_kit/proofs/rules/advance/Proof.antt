@@ -1,3 +1,4 @@
+-- `advance`: the walk over the registers ends. Invariant: i ≤ n, and the length kept. What falls: n - i.
 use Prim.Native.Nat.{_≤_, _-_}
 use mathlib.Core.Path.{_≡_, _∙_}
 use lib.ListN.{length}

@@ -1,3 +1,4 @@
+-- `broken`: twice the index of a pair can be worked out, and the walk ends. Invariant: k ≤ m. What falls: m - k.
 use Prim.Native.Nat.{_≤_, _-_}
 use borrow.Author.Needs.{needs}
 use Rattle.test_kit.proofs.rules.broken.Statement.{statement}

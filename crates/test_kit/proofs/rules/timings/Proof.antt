@@ -1,3 +1,4 @@
+-- `timings`: the walk from the last register to the first ends. Invariant: the length kept. What falls: i.
 use mathlib.Core.Path.{_≡_, _∙_}
 use lib.ListN.{length}
 use borrow.Author.Needs.{needs}

@@ -1,3 +1,4 @@
+-- `each`: every read is in the slice, and the walk ends. Invariant: i ≤ n. What falls: n - i.
 use Prim.Native.Nat.{_≤_, _-_}
 use borrow.Author.Needs.{needs}
 use Rattle.test_kit.proofs.show.each.Statement.{statement}

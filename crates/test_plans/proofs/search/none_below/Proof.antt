@@ -1,3 +1,4 @@
+-- `none_below`: the search over the periods ends. Invariant: the length kept. What falls: period - t.
 use Prim.Native.Nat.{_-_}
 use mathlib.Core.Path.{_≡_, _∙_}
 use lib.ListN.{length}

@@ -1,3 +1,4 @@
+-- `below`: the walk over the registers ends. Invariant: i ≤ n. What falls: n - i.
 use Prim.Native.Nat.{_≤_, _-_}
 use borrow.Author.Needs.{needs}
 use Rattle.test_schedules.proofs.plain.below.Statement.{statement}

@@ -1,3 +1,4 @@
+-- `none_below`: the search over the periods ends. It takes no invariant; what falls: period - t.
 use Prim.Native.Nat.{_-_}
 use borrow.Author.Needs.{needs}
 use Rattle.test_schedules.proofs.search.none_below.Statement.{statement}

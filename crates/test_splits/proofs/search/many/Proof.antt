@@ -1,13 +1,18 @@
-use Prim.Native.Nat.{_≤_, _-_}
+-- `many`: the run over all lists ends. Invariant: i is at most their count. What falls: the lists left.
+use Prim.Native.Nat.{ℕ, _≤_, _-_}
 use borrow.Author.Needs.{needs}
 use Rattle.test_splits.proofs.search.many.Statement.{statement}
 use Rattle.test_splits.proofs.search.many.Tie as tie
 
+-- how many lists there are
+abbrev lists : ℕ
+lists = 500
+
 abbrev Inv-loop : tie.InvT-loop
-Inv-loop tally₀ seed₀ i₀ tally seed i = i ≤ 500
+Inv-loop tally₀ seed₀ i₀ tally seed i = i ≤ lists
 
 abbrev μ-loop : tie.MeasureT-loop
-μ-loop tally₀ seed₀ i₀ tally seed i = 500 - i
+μ-loop tally₀ seed₀ i₀ tally seed i = lists - i
 
 pub many-spec : {M : Type 1} → statement M
 many-spec =
