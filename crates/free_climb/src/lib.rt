@@ -104,7 +104,7 @@ fn finish(words: &[u32], count: usize, x: &mut [u32], start: u32) -> u32
     period
 }
 
-// The climb in the order of a walk along the pairs.
+// The climb in the order of a tour along the pairs.
 fn ordered(words: &[u32], count: usize, x: &mut [u32], start: u32) -> u32
     requires { ⌜ Trial (now words) count start (now x) ⌝ }
     ensures { λ r. ⌜ Climbed (now (words .entry)) (now (x .exit)) r ⌝ }

@@ -1,4 +1,4 @@
--- A walk, step by step.
+-- A trail, step by step.
 use Prim.Native.Nat.{ℕ, _+_, _<_}
 use mathlib.Core.List.{List}
 use mathlib.Core.Path.{_≡_, refl}
@@ -12,7 +12,7 @@ use Rattle.free_rounds.proofs.RoundLaws.{rules-at}
 use Rattle.free_cycles.specs.declared.Trail.{Trail}
 use Rattle.free_cycles.specs.Tracing.{Traced, Further}
 
--- a walk of no steps
+-- a trail of no steps
 pub trail-start : {ws : List ℕ} {n at : ℕ} {w : Trail} → at < registers ws
     → (w .start ≡ at) × (w .at ≡ at) × (w .steps ≡ 0) × (w .gain ≡ 0) × (w .allowance ≡ 0) × (w .setups ≡ 0) → Traced ws n w
 trail-start h (s, a, k, g, l, u) =
@@ -40,7 +40,7 @@ module _ {ws : List ℕ} {count n : ℕ} {w : Trail} (r : AcceptedList ws n coun
         record {
           start = refl;
           on = omega arith;
-          walked = record {
+          traced = record {
             inside = is .values .launch;
             most = omega arith;
             setups = omega (arith, s .setups);
@@ -56,7 +56,7 @@ module _ {ws : List ℕ} {count n : ℕ} {w : Trail} (r : AcceptedList ws n coun
         record {
           start = refl;
           on = omega arith;
-          walked = record {
+          traced = record {
             inside = is .values .capture;
             most = omega arith;
             setups = omega (arith, s .setups);
@@ -71,7 +71,7 @@ module _ {ws : List ℕ} {count n : ℕ} {w : Trail} (r : AcceptedList ws n coun
       record {
         start = refl;
         on = more;
-        walked = record {
+        traced = record {
           inside = s .inside;
           most = omega arith;
           setups = omega (arith, s .setups);

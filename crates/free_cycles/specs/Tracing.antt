@@ -1,4 +1,4 @@
--- What is known of a walk back along rules of a delay list.
+-- What is known of a trail back along rules of a delay list.
 use Prim.Native.Nat.{ℕ, _*_, _≤_, _<_}
 use mathlib.Core.List.{List}
 use mathlib.Core.Path.{_≡_}
@@ -20,4 +20,4 @@ pub record Traced (ws : List ℕ) (n : ℕ) (w : Trail) : Type 0 where
 pub record Further (ws : List ℕ) (n : ℕ) (w r : Trail) : Type 0 where
   pub start : r .start ≡ w .start
   pub on : w .steps < r .steps
-  pub walked : Traced ws n r
+  pub traced : Traced ws n r

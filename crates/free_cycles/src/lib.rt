@@ -35,7 +35,7 @@ impl Trail {
     }
 }
 
-// One step back, along rule 2k, setup of pair k, or 2k + 1, its hold. What is no rule into the register where the walk
+// One step back, along rule 2k, setup of pair k, or 2k + 1, its hold. What is no rule into the register where the trail
 // stands ends it.
 fn along(words: &[u32], count: usize, n: usize, rule: u32, w: Trail) -> Trail
     requires { ⌜ AcceptedList (now words) n count ⌝ }
@@ -90,7 +90,7 @@ fn origin(words: &[u32], count: usize, n: usize, parents: &[u32; PARENTS], last:
     w.at
 }
 
-// The least period for which a walk that came back to its start is no contradiction; 0 for any other walk.
+// The least period for which a trail that came back to its start is no contradiction; 0 for any other trail.
 fn needed(w: Trail) -> u32
     requires { ⌜ w .gain ≤ maxPeriod * w .setups ⌝ }
     ensures { λ r. ⌜ ((u : ℕ) → (w .at ≡ w .start → w .gain ≤ w .allowance + w .setups * u) → r ≤ u) ⌝ }

@@ -1,4 +1,4 @@
-// An order of the pairs for rounds of raises: that of a walk from register to register along the pairs, either way. Times then
+// An order of the pairs for rounds of raises: that of a tour from register to register along the pairs, either way. Times then
 // move along a chain or round a ring in one round, in whatever order the list has its pairs.
 // It is a hint only, and nothing is promised of it.
 ghost use mathlib.Core.Path.{_≡_};
@@ -37,7 +37,7 @@ fn link(words: &[u32], count: usize, lasts: &mut [usize; REGISTERS], before: &mu
     }
 }
 
-// Where a walk stands: how many registers wait to be visited, how many pairs have their place, and where it starts next.
+// Where the tour stands: how many registers wait to be visited, how many pairs have their place, and where it starts next.
 pub struct Tour {
     pub waiting: usize,
     pub placed: usize,
@@ -63,11 +63,9 @@ fn enter(w: Tour, r: usize, line: &mut [usize; REGISTERS], marks: &mut [usize; R
     }
     marks[r] = WAITS;
     line[at] = r;
-    Tour {
-        waiting: at + 1,
-        placed: w.placed,
-        start: w.start,
-    }
+    let mut next = w;
+    next.waiting = at + 1;
+    next
 }
 
 // Pair k takes the next place, unless its other end has been visited.
@@ -80,11 +78,9 @@ fn place(w: Tour, k: usize, other: usize, order: &mut [usize]) -> Tour {
         return w;
     }
     order[at] = k;
-    Tour {
-        waiting: w.waiting,
-        placed: at + 1,
-        start: w.start,
-    }
+    let mut next = w;
+    next.placed = at + 1;
+    next
 }
 
 // The register at the other end.
@@ -131,7 +127,7 @@ fn visit(
     now
 }
 
-// One turn of a walk: the register that came last is visited, or one that was not met is put in the line.
+// One turn of the tour: the register that came last is visited, or one that was not met is put in the line.
 fn turn(
     words: &[u32],
     count: usize,
@@ -149,25 +145,19 @@ fn turn(
         if w.start >= REGISTERS {
             return w;
         }
-        let next = Tour {
-            waiting: 0,
-            placed: w.placed,
-            start: w.start + 1,
-        };
+        let mut next = w;
+        next.start = w.start + 1;
         return enter(next, w.start, line, marks);
     }
     let left = w.waiting - 1;
     let r = line[left % REGISTERS] % REGISTERS;
     marks[r] = VISITED;
-    let on = Tour {
-        waiting: left,
-        placed: w.placed,
-        start: w.start,
-    };
-    visit(words, count, on, r, lasts, before, line, marks, order)
+    let mut next = w;
+    next.waiting = left;
+    visit(words, count, next, r, lasts, before, line, marks, order)
 }
 
-// The order that a walk through n registers gives. It starts at each of them and visits each.
+// The order that a tour through n registers gives. It starts at each of them and visits each.
 pub fn lay_out(words: &[u32], count: usize, n: usize, order: &mut [usize])
     requires { ⌜ IsAccepted (now words) ⌝ }
     requires { ⌜ count ≡ pairCount (now words) ⌝ }

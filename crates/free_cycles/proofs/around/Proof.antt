@@ -22,7 +22,7 @@ back-requires c κs =
     (p .0, (trail-start (p .1) (c .standing .ensures), omega (arith, c .standing .ensures, some-registers _ (p .0))))
 
 loop-holds : tie.Need-loop-holds Inv-loop μ-loop
-loop-holds c = c .back .ensures .walked
+loop-holds c = c .back .ensures .traced
 
 back-requires-2 : tie.Need-back-requires-2 Inv-loop μ-loop
 back-requires-2 c κs = (c .before .before .before .before .before .before .before .before .pre .0, (c .before .before .before .before .loop .inv, ltb-true _ _ (c .if2 .taken)))
@@ -30,10 +30,10 @@ back-requires-2 c κs = (c .before .before .before .before .before .before .befo
 loop-less : tie.Need-loop-less Inv-loop μ-loop
 loop-less c =
     let b = c .back2 .ensures in
-    omega (arith, b .on, b .walked .most)
+    omega (arith, b .on, b .traced .most)
 
 loop-again : tie.Need-loop-again Inv-loop μ-loop
-loop-again c = c .back2 .ensures .walked
+loop-again c = c .back2 .ensures .traced
 
 needed-requires : tie.Need-needed-requires Inv-loop μ-loop
 needed-requires c κs = c .before .before .loop .inv .gain

@@ -22,10 +22,10 @@ back-requires c κs = (c .before .before .before .before .before .pre .0, (c .be
 loop-less : tie.Need-loop-less Inv-loop μ-loop
 loop-less c =
     let b = c .back .ensures in
-    omega (arith, b .on, b .walked .most)
+    omega (arith, b .on, b .traced .most)
 
 loop-again : tie.Need-loop-again Inv-loop μ-loop
-loop-again c = c .back .ensures .walked
+loop-again c = c .back .ensures .traced
 
 returns : tie.Need-returns Inv-loop μ-loop
 returns c = c .before .before .loop .inv .inside
