@@ -1,2 +1,4 @@
 pub mod Held
 pub mod Asked
+pub mod Called
+pub mod Locals

@@ -14,7 +14,7 @@ fill-requires : tie.Need-fill-requires
 fill-requires c κs =
     let ws = c .before .before .before .before .before .before .before .before .args .words .now in
     let a = accepted→none ws (sym (c .before .before .before .before .before .verdict .ensures) ∙ c .before .before .before .n .given .1) in
-    (none→accepted ws (a .none), (a .pairsAre, omega arith))
+    (none→accepted ws (a .none), omega (arith, a .pairsAre))
 
 returns-2 : tie.Need-returns-2
 returns-2 c = read-refused (c .before .before .before .before .before .before .args .words .now) (c .before .before .before .before .before .before .args .answer .now) (sym (c .before .before .before .verdict .ensures) ∙ c .before .number .given .1)
