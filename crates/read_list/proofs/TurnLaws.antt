@@ -1,5 +1,5 @@
 -- A turn of the loop that reads a list, for a reader at pair k: what it has come to has its places in the buffer, is stored, and the reader goes on.
-use mathlib.Core.Path.{_≡_, refl}
+use mathlib.Core.Path.{_≡_, refl, sym, _∙_, ap, subst}
 use Prim.Native.Nat.{ℕ, _+_, _*_, _-_, _≤_, _<_}
 use mathlib.Core.Bool.{Bool, true, false, not, cond}
 use mathlib.Core.List.{List, []}
@@ -12,11 +12,16 @@ use Rattle.buffers.proofs.FillLaws.{Filling, filling-room, filling-size, fillin
 use Rattle.list_format.specs.Lists.{pairCount, pairAt}
 use Rattle.list_format.specs.Read.{fourOf, numbersOf}
 use Rattle.list_format.specs.Walk.{nextAt, placeAfter}
+use Rattle.list_format.specs.declared.Next.{Next}
 use Rattle.list_format.specs.declared.Next.the-variants.{One, End}
 use Rattle.read_list.specs.Stored.{isOne, stored}
 
+-- the numbers of the pairs before k stand in the buffer
+abbrev pub ReadTo : List ℕ → List ℕ → List ℕ → ℕ → Type 0
+ReadTo ws was now k = Filling [] (λ k. fourOf (pairAt ws k)) (pairCount ws) was now k
+
+-- a reader at k has come to a pair, or to the end
 module _ (ws : List ℕ) (k : ℕ) where
-  -- a reader at k has come to a pair, or to the end
   at-pair : Holds (isOne (nextAt ws k)) → k < pairCount ws
   unfolding isOne
   at-pair one = go (ltb k (pairCount ws)) refl one
@@ -33,28 +38,31 @@ module _ (ws : List ℕ) (k : ℕ) where
       go true e none = absurd none
       go false e none = ltb-false k (pairCount ws) e
 
--- the numbers of the pairs before k stand in the buffer
-abbrev pub ReadTo : List ℕ → List ℕ → List ℕ → ℕ → Type 0
-ReadTo ws was now k = Filling [] (λ k. fourOf (pairAt ws k)) (pairCount ws) was now k
+-- `next` is what the reader has come to
+module _ (ws : List ℕ) {was now : List ℕ} {k : ℕ} (h : ReadTo ws was now k) {next : Next} (came : next ≡ nextAt ws k) where
+  pub turn-room : 4 * pairCount ws ≤ length was → isOne next ≡ true → 4 * k + 4 ≤ length now
+  turn-room places one =
+      let l = at-pair ws k (subst Holds (sym one ∙ ap isOne came) tt) in
+      omega (arith, filling-size h, filling-room 4 (λ k. refl) (omega arith) h l)
 
-module _ (ws : List ℕ) {was now : List ℕ} {k : ℕ} (h : ReadTo ws was now k) where
-  pub turn-falls : Holds (isOne (nextAt ws k)) → pairCount ws - placeAfter ws k < pairCount ws - k
-  turn-falls one =
-      let l = at-pair ws k one in
-      rw (lt-ltb k (pairCount ws) l) (omega (arith, l))
+  -- it was stored, and `more` says whether it was a pair
+  module _ {more : Bool} {after : List ℕ} (kept : (more ≡ isOne next) × (after ≡ stored next k now)) where
+    goes-on : Holds more → k < pairCount ws
+    goes-on one = at-pair ws k (subst Holds (kept .0 ∙ ap isOne came) one)
 
-  pub turn-end : Holds (not (isOne (nextAt ws k))) → stored (nextAt ws k) k now ≡ over (numbersOf ws) was
-  unfolding stored
-  turn-end none =
-      let l = at-end ws k none in
-      rw (le-ltb k (pairCount ws) l) (filling-end h l)
-
-  module _ (places : 4 * pairCount ws ≤ length was) (one : Holds (isOne (nextAt ws k))) where
-    pub turn-room : 4 * k + 4 ≤ length now
-    turn-room = omega (arith, filling-size h, filling-room 4 (λ k. refl) (omega arith) h (at-pair ws k one))
-
-    pub turn-next : ReadTo ws was (stored (nextAt ws k) k now) (placeAfter ws k)
+    pub turn-next : 4 * pairCount ws ≤ length was → Holds more → ReadTo ws was after (placeAfter ws k)
     unfolding stored
-    turn-next =
-        let l = at-pair ws k one in
-        rw (lt-ltb k (pairCount ws) l) (filling-turn 4 (λ k. refl) (omega arith) h l (4 * k) (omega arith) refl)
+    turn-next places one =
+        let l = goes-on one in
+        rw (kept .1, came, lt-ltb k (pairCount ws) l) (filling-turn 4 (λ k. refl) (omega arith) h l (4 * k) (omega arith) refl)
+
+    pub turn-falls : Holds more → pairCount ws - placeAfter ws k < pairCount ws - k
+    turn-falls one =
+        let l = goes-on one in
+        rw (lt-ltb k (pairCount ws) l) (omega (arith, l))
+
+    pub turn-end : Holds (not more) → after ≡ over (numbersOf ws) was
+    unfolding stored
+    turn-end none =
+        let l = at-end ws k (subst (λ z. Holds (not z)) (kept .0 ∙ ap isOne came) none) in
+        rw (kept .1, came, le-ltb k (pairCount ws) l) (filling-end h l)
