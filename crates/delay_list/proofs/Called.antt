@@ -62,15 +62,17 @@ module _ {M : Type 1} {𝓤 : URA M} {H : Heap 𝓤} {A : Atoms 𝓤} {K : Type 
       → ent 𝓤 (emp 𝓤) (requires 𝓤 H A T c y)
       → ((P : SProp 𝓤) → Opds K W (raw P ∷ Γ) E xs (Promise 𝓤 H A T c .args y))
       → ((r : Result 𝓤 H A T c y .Denot) (ws : Last 𝓤 H A T c y) → Says r ws → Is (Result 𝓤 H A T c y) r (value r ∷ [])
-        → Seq K W (‵ (Result 𝓤 H A T c y .own r (value r ∷ [])) ∷ raw (tokens 𝓤 H A T c y) ∷ ‵ (last 𝓤 H A T c y ws) ∷ Γ) (lands C Λ E d (value r) rest q))
+      → Seq K W (‵ (Result 𝓤 H A T c y .own r (value r ∷ [])) ∷ raw (tokens 𝓤 H A T c y) ∷ ‵ (last 𝓤 H A T c y ws) ∷ Γ) (lands C Λ E d (value r) rest q))
       → Seq K W (raw (tokens 𝓤 H A T c y) ∷ ‵ (arguments 𝓤 H A T c y) ∷ Γ) (runs C Λ E (seq (call f xs d) rest) q)
   asks t fm T c known y value tells Says says met os k =
       let R = Result 𝓤 H A T c y in
       use0 W (raw (requires 𝓤 H A T c y)) met $ move t (1 ∷ 2 ∷ 0 ∷ []) $
       use3 W (raw (Promise 𝓤 H A T c .pre y)) (assoc′ 𝓤 (tokens 𝓤 H A T c y) (sem 𝓤 H A (arguments 𝓤 H A T c y)) (requires 𝓤 H A T c y)) $
       calls-at t fm (Promise 𝓤 H A T c) known y (os (Promise 𝓤 H A T c .pre y)) (λ u.
-      use1 W (later (some (λ (r : R .Denot). (raw (tokens 𝓤 H A T c y) ⊛ ‵ (R .own r (u ∷ []))) ⊛ some (λ (ws : Last 𝓤 H A T c y). ‵ (last 𝓤 H A T c y ws) ⊛ raw (ensures 𝓤 H A T c y r ws))))) (id⊢ 𝓤 _) $
-      await t tt $ pick t (λ r. split t $ move t (1 ∷ []) $ pick t (λ ws. split t $ move t (1 ∷ []) $ use1 W (raw (fact 𝓤 (Says r ws))) (says r ws) $ heard t (Says r ws) (λ e.
+      use1 W (later (some (λ (r : R .Denot). (raw (tokens 𝓤 H A T c y) ⊛ ‵ (R .own r (u ∷ [])))
+      ⊛ some (λ (ws : Last 𝓤 H A T c y). ‵ (last 𝓤 H A T c y ws) ⊛ raw (ensures 𝓤 H A T c y r ws))))) (id⊢ 𝓤 _) $
+      await t tt $ pick t (λ r. split t $ move t (1 ∷ []) $
+      pick t (λ ws. split t $ move t (1 ∷ []) $ use1 W (raw (fact 𝓤 (Says r ws))) (says r ws) $ heard t (Says r ws) (λ e.
       move t (1 ∷ []) $ split t $ move t (1 ∷ []) $ peeks t R (Is R) (shows 𝓤 H A R) r (u ∷ []) (λ is.
       let told = tells r (u ∷ []) is in
       subst (λ (us : List Val). Seq K W (‵ (R .own r us) ∷ raw (tokens 𝓤 H A T c y) ∷ ‵ (last 𝓤 H A T c y ws) ∷ Γ) (lands C Λ E d (only us) rest q)) (sym told)

@@ -12,7 +12,7 @@ use base.Fml.{Lft, Fml}
 use prog.Wp.{Heap}
 use ghost.Atoms.{Atoms, sem}
 use contract.Lifetimes.{Lfts}
-use types.Kit.{Given, ‵, _⊛_, given, _$_, _∵_, !, qed, by, move, use1, split, learn, fjoin, frame, done}
+use types.Kit.{Given, ‵, _⊛_, given, _$_, _∵_, !, qed, by, move, use1, split, learn, fjoin, done}
 use denote.RattleType.{RattleType, owns}
 use denote.Laws.{Is, Tells}
 use denote.Plain.{uint-makes}
@@ -24,7 +24,7 @@ use denote.Slice.{sliceVal, ShrSlice}
 use denote.Steps.{owned, nothing}
 use denote.Struct.Declared.{Declared}
 use denote.Struct.Laws as LL
-use denote.Struct.Rest.{all-own, own-open, own-put, own-shut}
+use denote.Struct.Rest.{own-open, own-put, own-shut}
 use denote.Triple.Clauses.{Ended}
 use denote.Triple.Walked.{stay-none, goes-none}
 use Rattle.delay_list.specs.declared.Reader.{Reader}

@@ -1,9 +1,12 @@
 -- The locals of a function whose code is walked. Each has two entries of the walk's context: its cell, with a value or empty, and that it dies
--- at the end. They stand together, the last local's first, so a local's number says where its cell is, and a walk names no positions.
+-- at the end. They stand together, the last local's first, so a local's number says where its cell is, and a walk names no positions of cells.
 --     held E vs Γ      the entries of the locals E with the values vs, in front of Γ
 --     begins, takes    a function is entered: its locals are empty, then its parameters are stored
---     val, part        local i is read, or a field of it.        sets, lands-in     it is filled by an assignment, or by a call.        copies-last      it is overwritten
---     fronts           the locals are brought to the front.        clears           the locals that are not marked are emptied.        leaves      the function returns, and all locals are freed
+--     val, part        local i is read, or a field of it
+--     sets, lands-in   it is filled by an assignment, or by a call.        copies-last      it is overwritten, at the end of a turn
+--     tests            the test of a loop
+--     fronts           the entries in front of the locals go behind them.        clears     the locals that are not marked are emptied
+--     leaves           the function returns, and all locals are freed
 -- The number s of a law says how many entries stand in front of the locals.
 use mathlib.Core.Path.{_≡_, sym, subst}
 use mathlib.Core.Bool.{Bool, true, false, not}
@@ -21,9 +24,11 @@ use base.Fml.{Share, fat, froom, fdies}
 use prog.Memory.{fieldOf}
 use prog.Wp.{Heap, Calls, Loops, WpFn, release, next, exits}
 use ghost.Atoms.{Atoms}
-use types.Kit.{Given, Item, ‵, raw, mean, ⋆, nth, del, put, pull, unpull, sel, sel⊢, push, pop, Post, post, Goal, prop, runs, lands, allocs, params′, passes, frees, atRet, Seq, Step, step, _$_, _∵_, !, qed, move, use1, join, split, frame, by, done}
+use types.Kit.{Given, Item, ‵, raw, mean, ⋆, nth, del, put, pull, unpull, sel, sel⊢, push, pop, Post, post, Goal, prop, runs, lands, allocs, params′}
+use types.Kit.{passes, atRet, Seq, Step, step, _$_, _∵_, !, qed, move, join, by, done}
 use types.Part.{Part, look-in}
-use types.Run.{Opd, Rv, Reads, look, init, store, stop, fld, from, load, of-opd, assigns, assigns-last, land, first, skips, jumps, branches, returns, enter, alloc1, alloc0, params1, pass1}
+use types.Run.{Opd, Rv, look, init, store, stop, fld, from, load, of-opd, assigns, assigns-last, land, first, skips, jumps, branches, returns}
+use types.Run.{enter, alloc1, alloc0, pass1}
 
 -- each local's type and its block
 abbrev pub Env : Type 0
@@ -138,26 +143,30 @@ module _ {M : Type 1} (𝓤 : URA M) (H : Heap 𝓤) (A : Atoms 𝓤) (W : Given
       via 𝓤 (release 𝓤 H E (sep 𝓤 R G))
       (leave E (tail vs) (cell τ b vs ∷ ‵ (fdies τ b) ∷ Γ) (sep 𝓤 R G)
       (via 𝓤 (all (‵ (froom τ b 0) ∷ ‵ (fdies τ b) ∷ raw G ∷ []))
-      (under (cell τ b vs) (‵ (froom τ b 0)) (‵ (fdies τ b) ∷ Γ) (‵ (fdies τ b) ∷ raw G ∷ []) (emptied τ b vs) (under (‵ (fdies τ b)) (‵ (fdies τ b)) Γ (raw G ∷ []) (id⊢ 𝓤 _) h))
+      (under (cell τ b vs) (‵ (froom τ b 0)) (‵ (fdies τ b) ∷ Γ) (‵ (fdies τ b) ∷ raw G ∷ []) (emptied τ b vs)
+      (under (‵ (fdies τ b)) (‵ (fdies τ b)) Γ (raw G ∷ []) (id⊢ 𝓤 _) h))
       (qed W (‵ (froom τ b 0) ∷ ‵ (fdies τ b) ∷ raw G ∷ []) ∵ join ! $ done !)))
       (freed-first E R G)
 
 -- ---- the laws of a walk
 
 module _ {M : Type 1} {𝓤 : URA M} {H : Heap 𝓤} {A : Atoms 𝓤} {K : Type 0} {W : Given 𝓤 H A} where
-  allocates : K → {Γ : List (Item 𝓤)} {Kt : Env → Goal 𝓤 H} (ls : List Local) → ((bs : Blocks ls) → Seq K W (held (env ls bs) [] Γ) (Kt (env ls bs))) → Seq K W Γ (allocs ls Kt)
+  allocates : K → {Γ : List (Item 𝓤)} {Kt : Env → Goal 𝓤 H} (ls : List Local) → ((bs : Blocks ls) → Seq K W (held (env ls bs) [] Γ) (Kt (env ls bs)))
+      → Seq K W Γ (allocs ls Kt)
   allocates t [] k = alloc0 t $ k tt
   allocates t {Kt = Kt} (local τ h ∷ ls) k = alloc1 t (λ b. allocates t {Kt = λ E. Kt ((τ, b) ∷ E)} ls (λ bs. k (b, bs)))
 
   module _ {Γ : List (Item 𝓤)} where
     -- a function is entered
     pub begins : K → (C : Calls 𝓤 H) (Λ : Loops 𝓤 H) (f : Fn) (vs : List Val) {Kf : Val → SProp 𝓤}
-        → ((bs : Blocks (f .locals)) → Seq K W (held (env (f .locals) bs) [] Γ) (params′ (env (f .locals) bs) vs (runs C Λ (env (f .locals) bs) (f .body) (atRet (env (f .locals) bs) Kf))))
+        → ((bs : Blocks (f .locals))
+        → Seq K W (held (env (f .locals) bs) [] Γ) (params′ (env (f .locals) bs) vs (runs C Λ (env (f .locals) bs) (f .body) (atRet (env (f .locals) bs) Kf))))
         → Seq K W Γ (prop (WpFn 𝓤 H C Λ f vs Kf))
     begins t C Λ f vs {Kf} k = enter t C Λ f vs Kf $ allocates t (f .locals) k
 
     -- the next parameter is stored
-    pub takes : K → {τ : Ty} {b : ℕ} {E : Env} {v : Val} {vs : List Val} {g : Goal 𝓤 H} → nth 𝓤 H A (2 * length E) Γ ≡ ‵ (froom τ b 0) → Holds (hasTy τ v) × WT v
+    pub takes : K → {τ : Ty} {b : ℕ} {E : Env} {v : Val} {vs : List Val} {g : Goal 𝓤 H} → nth 𝓤 H A (2 * length E) Γ ≡ ‵ (froom τ b 0)
+        → Holds (hasTy τ v) × WT v
         → Step K W (put 𝓤 H A (2 * length E) (‵ (fat fullShare τ b 0 v)) Γ) (passes E vs g) Γ (passes ((τ, b) ∷ E) (v ∷ vs) g)
     takes t {E = E} e wt = pass1 t (init t (2 * length E) e wt)
 
@@ -183,12 +192,15 @@ module _ {M : Type 1} {𝓤 : URA M} {H : Heap 𝓤} {A : Atoms 𝓤} {K : Type 
         lands-in t s e wt = land t (from t (stop t)) (init t (s + spot E i) e wt)
 
     -- what lies in an entry's cell has the cell's type
-    holds : K → {G : Goal 𝓤 H} (n : ℕ) {q : Share} {τ : Ty} {b : ℕ} {v : Val} → nth 𝓤 H A n Γ ≡ ‵ (fat q τ b 0 v) → (Holds (hasTy τ v) × WT v → Seq K W Γ G) → Seq K W Γ G
+    holds : K → {G : Goal 𝓤 H} (n : ℕ) {q : Share} {τ : Ty} {b : ℕ} {v : Val} → nth 𝓤 H A n Γ ≡ ‵ (fat q τ b 0 v) → (Holds (hasTy τ v) × WT v → Seq K W Γ G)
+        → Seq K W Γ G
     holds t {G} n {q} {τ} {b} {v} e k = record {
-      prf = via 𝓤 (sep 𝓤 (H .at q τ b 0 v) (⋆ 𝓤 H A (del 𝓤 H A n Γ))) (subst (λ (j : Item 𝓤). ent 𝓤 (⋆ 𝓤 H A Γ) (sep 𝓤 (mean 𝓤 H A j) (⋆ 𝓤 H A (del 𝓤 H A n Γ)))) e (pull 𝓤 H A n Γ))
-        (via 𝓤 (sep 𝓤 (guard 𝓤 (Holds (hasTy τ v) × WT v) (H .at q τ b 0 v)) (⋆ 𝓤 H A (del 𝓤 H A n Γ))) (monoL 𝓤 (⋆ 𝓤 H A (del 𝓤 H A n Γ)) (W .laws .at-wt q τ b 0 v))
-        (ex∗ 𝓤 (λ (_ : Holds (hasTy τ v) × WT v). H .at q τ b 0 v) (⋆ 𝓤 H A (del 𝓤 H A n Γ)) (λ wt.
-        via 𝓤 (⋆ 𝓤 H A Γ) (subst (λ (j : Item 𝓤). ent 𝓤 (sep 𝓤 (mean 𝓤 H A j) (⋆ 𝓤 H A (del 𝓤 H A n Γ))) (⋆ 𝓤 H A Γ)) e (unpull 𝓤 H A n Γ)) (k wt .prf))));
+      prf = via 𝓤 (sep 𝓤 (H .at q τ b 0 v) (⋆ 𝓤 H A (del 𝓤 H A n Γ)))
+          (subst (λ (j : Item 𝓤). ent 𝓤 (⋆ 𝓤 H A Γ) (sep 𝓤 (mean 𝓤 H A j) (⋆ 𝓤 H A (del 𝓤 H A n Γ)))) e (pull 𝓤 H A n Γ))
+          (via 𝓤 (sep 𝓤 (guard 𝓤 (Holds (hasTy τ v) × WT v) (H .at q τ b 0 v)) (⋆ 𝓤 H A (del 𝓤 H A n Γ)))
+          (monoL 𝓤 (⋆ 𝓤 H A (del 𝓤 H A n Γ)) (W .laws .at-wt q τ b 0 v))
+          (ex∗ 𝓤 (λ (_ : Holds (hasTy τ v) × WT v). H .at q τ b 0 v) (⋆ 𝓤 H A (del 𝓤 H A n Γ)) (λ wt.
+          via 𝓤 (⋆ 𝓤 H A Γ) (subst (λ (j : Item 𝓤). ent 𝓤 (sep 𝓤 (mean 𝓤 H A j) (⋆ 𝓤 H A (del 𝓤 H A n Γ))) (⋆ 𝓤 H A Γ)) e (unpull 𝓤 H A n Γ)) (k wt .prf))));
     }
 
     -- local j is copied over local i, of the same type, at the end of a turn
@@ -201,7 +213,8 @@ module _ {M : Type 1} {𝓤 : URA M} {H : Heap 𝓤} {A : Atoms 𝓤} {K : Type 
 
     -- the test of a loop: the turn goes on, or the loop is left
     pub tests : K → {C : Calls 𝓤 H} {Λ : Loops 𝓤 H} {E : Env} {q : Post 𝓤 H} {c : Operand} {n : ℕ} {b : Body} {y : Bool} → Opd K W Γ E c (vbool y)
-        → (Holds y → Seq K W Γ (runs C Λ E b q)) → (Holds (not y) → Seq K W Γ (prop (post 𝓤 H q (exits n)))) → Seq K W Γ (runs C Λ E (seq (cond c skip (exit n)) b) q)
+        → (Holds y → Seq K W Γ (runs C Λ E b q)) → (Holds (not y) → Seq K W Γ (prop (post 𝓤 H q (exits n))))
+        → Seq K W Γ (runs C Λ E (seq (cond c skip (exit n)) b) q)
     tests t o goes ends = first t $ branches t o (λ h. skips t $ record { prf = goes h .prf }) (λ h. jumps t $ record { prf = ends h .prf })
 
     -- ---- all locals at once
@@ -209,9 +222,11 @@ module _ {M : Type 1} {𝓤 : URA M} {H : Heap 𝓤} {A : Atoms 𝓤} {K : Type 
     pub fronts : K → {G : Goal 𝓤 H} (E : Env) (s : ℕ) → Step K W (sel 𝓤 H A (replicate (2 * length E) s) Γ) G Γ G
     fronts t E s = step (λ h. by t (via 𝓤 (⋆ 𝓤 H A (sel 𝓤 H A (replicate (2 * length E) s) Γ)) (sel⊢ 𝓤 H A (replicate (2 * length E) s) Γ) (h .prf)))
 
-    pub clears : K → {G : Goal 𝓤 H} (E : Env) (ks : List Bool) (vs : List (Option Val)) → Γ ≡ held E vs (behind E Γ) → Step K W (held E (marked ks vs) (behind E Γ)) G Γ G
+    pub clears : K → {G : Goal 𝓤 H} (E : Env) (ks : List Bool) (vs : List (Option Val)) → Γ ≡ held E vs (behind E Γ)
+        → Step K W (held E (marked ks vs) (behind E Γ)) G Γ G
     clears t {G} E ks vs e = step (λ s. by t (via 𝓤 (⋆ 𝓤 H A (held E (marked ks vs) (behind E Γ)))
-        (subst (λ (Z : List (Item 𝓤)). ent 𝓤 (⋆ 𝓤 H A Z) (⋆ 𝓤 H A (held E (marked ks vs) (behind E Γ)))) (sym e) (clear 𝓤 H A W E ks vs (behind E Γ) (behind E Γ) (id⊢ 𝓤 _))) (s .prf)))
+        (subst (λ (Z : List (Item 𝓤)). ent 𝓤 (⋆ 𝓤 H A Z) (⋆ 𝓤 H A (held E (marked ks vs) (behind E Γ)))) (sym e)
+        (clear 𝓤 H A W E ks vs (behind E Γ) (behind E Γ) (id⊢ 𝓤 _))) (s .prf)))
 
     pub leaves : K → {C : Calls 𝓤 H} {Λ : Loops 𝓤 H} {E : Env} {Kf : Val → SProp 𝓤} {r : Val} (vs : List (Option Val))
         → nth 𝓤 H A (spot E 0) Γ ≡ full E 0 r → Γ ≡ held E vs (behind E Γ)

@@ -101,17 +101,22 @@ module _ {M : Type 1} (𝓤 : URA M) (H : Heap 𝓤) (A : Atoms 𝓤) (n : ℕ) 
     abbrev pub Start : List (Item 𝓤)
     Start = raw (alive 𝓤 H A (T .signature) κs qs) ∷ ‵ (owns (typesAt (slots ps) κs) a (passing κs a)) ∷ raw (c κs a .requires g) ∷ []
 
-    pub ends : {K : Type 0} {W : Given 𝓤 H A} → K → (v : Val) (r : Res (T .signature) κs) (ws : Lasts T κs a) → Fit T (stays ps) κs a ws → ent 𝓤 (emp 𝓤) (c κs a .ensures g r (atExit T κs a ws))
-        → Seq K W (raw (alive 𝓤 H A (T .signature) κs qs) ∷ ‵ (hasOf κs (slots ps) (kepts ps) (stays ps) a ws (passing κs a)) ∷ ‵ (S .row κs .own r (v ∷ [])) ∷ []) (prop (Post v))
+    pub ends : {K : Type 0} {W : Given 𝓤 H A} → K → (v : Val) (r : Res (T .signature) κs) (ws : Lasts T κs a) → Fit T (stays ps) κs a ws
+        → ent 𝓤 (emp 𝓤) (c κs a .ensures g r (atExit T κs a ws))
+        → Seq K W (raw (alive 𝓤 H A (T .signature) κs qs) ∷ ‵ (hasOf κs (slots ps) (kepts ps) (stays ps) a ws (passing κs a)) ∷ ‵
+        (S .row κs .own r (v ∷ [])) ∷ []) (prop (Post v))
     ends {W = W} t v r ws fit says =
         suffices t _ (ends-at 𝓤 H A T (stays ps) c W ((κs, qs, bounds, a, passing κs a), g) v r ws fit) $
         use0 W (raw (c κs a .ensures g r (atExit T κs a ws))) says $ move t (1 ∷ 2 ∷ 3 ∷ 0 ∷ []) $ group t 3 $ done t
 
   pub meets : (W : Given 𝓤 H A) (𝓣 : Tables 𝓤 H) (f : Fn)
-      → ((κs : Lfts n) (qs : Shares n) (bounds : AllOutlive n [] κs) (a : Args (T .signature) κs) (g : c κs a .ghost) → Are (typesAt (slots ps) κs) (Ises (typesAt (slots ps) κs)) a (passing κs a)
-        → Seq (Go {0}) W (Start κs qs bounds a g) (prop (WpFn 𝓤 H (𝓣 .C) (𝓣 .Λ) f (flat (typesAt (slots ps) κs) (passing κs a)) (Post κs qs bounds a g))))
+      → ((κs : Lfts n) (qs : Shares n) (bounds : AllOutlive n [] κs) (a : Args (T .signature) κs) (g : c κs a .ghost)
+      → Are (typesAt (slots ps) κs) (Ises (typesAt (slots ps) κs)) a (passing κs a)
+      → Seq (Go {0}) W (Start κs qs bounds a g) (prop (WpFn 𝓤 H (𝓣 .C) (𝓣 .Λ) f (flat (typesAt (slots ps) κs) (passing κs a)) (Post κs qs bounds a g))))
       → Triple 𝓤 (WpFn 𝓤 H (𝓣 .C) (𝓣 .Λ) f) (Promise 𝓤 H A T c)
   meets W 𝓣 f walk =
       walk-meets 𝓤 H A T (stays ps) W (goings 𝓤 H A W ps) c (WpFn 𝓤 H (𝓣 .C) (𝓣 .Λ) f) (WpFn-mono 𝓤 H (W .laws) 𝓣 f)
       (walked 𝓤 H A T (stays ps) c (WpFn 𝓤 H (𝓣 .C) (𝓣 .Λ) f) (spells ps) (tellings ps)
-      (λ κs qs bounds a g are. via 𝓤 _ (assoc∗ 𝓤 (alive 𝓤 H A (T .signature) κs qs) (sem 𝓤 H A (owns (typesAt (slots ps) κs) a (passing κs a))) (c κs a .requires g)) (walk κs qs bounds a g are .prf)))
+      (λ κs qs bounds a g are. via 𝓤 _
+      (assoc∗ 𝓤 (alive 𝓤 H A (T .signature) κs qs) (sem 𝓤 H A (owns (typesAt (slots ps) κs) a (passing κs a))) (c κs a .requires g))
+      (walk κs qs bounds a g are .prf)))

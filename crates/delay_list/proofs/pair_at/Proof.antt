@@ -48,7 +48,8 @@ pair-at-spec 𝓤 H 𝓜 𝓖 𝓡 =
     let new-says = new.clauses 𝓤 H A (𝓜 .mem) (𝓡 .run) in
     let pair-says = pair.clauses 𝓤 H A (𝓜 .mem) (𝓡 .run) in
     let known-new = cited 𝓤 H (Promise 𝓤 H A new.ended new-says) 𝓜 𝓡 code.env #new new-def.routine code.calls-delay-list·Reader·new (new-thm.met 𝓤 H 𝓜 𝓖 𝓡) in
-    let known-pair = cited 𝓤 H (Promise 𝓤 H A pair.ended pair-says) 𝓜 𝓡 code.env #pair pair-def.routine code.calls-delay-list·Reader·pair (pair-thm.met 𝓤 H 𝓜 𝓖 𝓡) in
+    let known-pair = cited 𝓤 H (Promise 𝓤 H A pair.ended pair-says) 𝓜 𝓡 code.env #pair pair-def.routine code.calls-delay-list·Reader·pair
+    (pair-thm.met 𝓤 H 𝓜 𝓖 𝓡) in
     entered 𝓤 H (Promise 𝓤 H A pair-at.ended c) (𝓣 .C) (𝓣 .Λ) #pair-at code.function (code.unfolded 𝓤 H 𝓜 𝓡)
     (meets 𝓤 H A 1 (words tt ∷ place ∷ []) (plain (λ _. S.the-row)) c W 𝓣 code.function (λ κs qs bounds a g are.
     let κ = κs .0 in
@@ -61,9 +62,12 @@ pair-at-spec 𝓤 H 𝓜 𝓖 𝓡 =
     -- [the locals; the token; what the words own; what the place owns]
     move ! (8 ∷ 9 ∷ []) $ makes ! fm (𝓜 .mem) (𝓡 .run) known-new s (λ P. and-then ! (val ! 2 refl) (and-then ! (val ! 2 refl) (no-more !))) fits (λ d made is.
     lands-in ! 3 refl (typed 𝓤 H A W κ d is) $ move ! (1 ∷ 0 ∷ []) $
-    asks-it ! fm (plain (λ _. S.the-row)) pair-says known-pair d tt (LL.val S.the-type S′.the-laws) (LL.tells S.the-type S′.the-laws) (IsPair (now (d .words)) (d .at)) (λ p. id⊢ 𝓤 _)
+    asks-it ! fm (plain (λ _. S.the-row)) pair-says known-pair d tt (LL.val S.the-type S′.the-laws) (LL.tells S.the-type S′.the-laws)
+    (IsPair (now (d .words)) (d .at)) (λ p. id⊢ 𝓤 _)
     (factI 𝓤 _ (emp 𝓤) (rw (made .0, made .1) ok)) (λ P. and-then ! (val ! 3 refl) (no-more !)) (λ p found is-p.
     -- [the pair; the token; what the reader owns; what the words own; the locals; what the place owns]
-    lands-in ! 4 refl (LL.lawful S.the-type S′.the-laws 𝓤 H A W .typed p _ is-p .0) $ move ! (2 ∷ []) $ drop ! $ move ! (2 ∷ 11 ∷ []) $ fjoin ! $ move ! (2 ∷ 0 ∷ []) $
+    lands-in ! 4 refl (LL.lawful S.the-type S′.the-laws 𝓤 H A W .typed p _ is-p .0) $ move ! (2 ∷ []) $ drop ! $ move ! (2 ∷ 11 ∷ []) $ fjoin ! $
+    move ! (2 ∷ 0 ∷ []) $
     fronts ! (env (code.function .locals) bs) 3 $ leaves ! (some _ ∷ some _ ∷ some _ ∷ some _ ∷ []) refl refl $
-    ends 𝓤 H A 1 (words tt ∷ place ∷ []) (plain (λ _. S.the-row)) c κs qs bounds a g ! _ p (tt, (tt, tt)) (tt, (tt, tt)) (factI 𝓤 _ (emp 𝓤) (rw (made .0, made .1) at found))))))))
+    ends 𝓤 H A 1 (words tt ∷ place ∷ []) (plain (λ _. S.the-row)) c κs qs bounds a g ! _ p (tt, (tt, tt)) (tt, (tt, tt))
+    (factI 𝓤 _ (emp 𝓤) (rw (made .0, made .1) at found))))))))

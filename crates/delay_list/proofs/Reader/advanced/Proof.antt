@@ -38,7 +38,8 @@ advanced-spec 𝓤 H 𝓜 𝓖 𝓡 =
     let 𝓣 = tablesOf 𝓤 H 𝓜 (tables 𝓤 H 𝓜 𝓡 code.env) in
     let c = advanced.clauses 𝓤 H A (𝓜 .mem) (𝓡 .run) in
     let after-says = after.clauses 𝓤 H A (𝓜 .mem) (𝓡 .run) in
-    let known = cited 𝓤 H (Promise 𝓤 H A after.ended after-says) 𝓜 𝓡 code.env #after after-def.routine code.calls-delay-list·place-after (after-thm.met 𝓤 H 𝓜 𝓖 𝓡) in
+    let known = cited 𝓤 H (Promise 𝓤 H A after.ended after-says) 𝓜 𝓡 code.env #after after-def.routine code.calls-delay-list·place-after
+    (after-thm.met 𝓤 H 𝓜 𝓖 𝓡) in
     entered 𝓤 H (Promise 𝓤 H A advanced.ended c) (𝓣 .C) (𝓣 .Λ) #advanced code.function (code.unfolded 𝓤 H 𝓜 𝓡)
     (meets 𝓤 H A 1 (reader ∷ []) (plain B) c W 𝓣 code.function (λ κs qs bounds a g are.
     let κ = κs .0 in
@@ -51,12 +52,16 @@ advanced-spec 𝓤 H 𝓜 𝓖 𝓡 =
     sets ! 0 (of-opd ! (part ! 0 refl (sub ! 1 refl (whole !)))) refl (tt, wt .1 .1 .0) $
     -- [the locals; the token; what the reader owns; true]
     move ! (13 ∷ []) $ use1 W (‵ (Parts 𝓤 H A W κ d) ⊛ ‵ (Own 𝓤 H A W κ d)) (apart 𝓤 H A W κ d) $ split ! $ move ! (14 ∷ 0 ∷ []) $
-    asks ! (fmOf 𝓤 H (W .laws) 𝓣) after.ended after-says known ((κs, qs, tt, (d .words, (d .at, tt)), (wordsVal (d .words) ∷ [], (vint w64 (d .at) ∷ [], tt))), tt)
-    (vint w64) (uint-tells w64) (λ k ws. k ≡ placeAfter (now (d .words)) (d .at)) (λ k ws. id⊢ 𝓤 _) (id⊢ 𝓤 _) (λ P. and-then ! (val ! 2 refl) (and-then ! (val ! 2 refl) (no-more !))) (λ k ws e is.
+    asks ! (fmOf 𝓤 H (W .laws) 𝓣) after.ended after-says known
+    ((κs, qs, tt, (d .words, (d .at, tt)), (wordsVal (d .words) ∷ [], (vint w64 (d .at) ∷ [], tt))), tt)
+    (vint w64) (uint-tells w64) (λ k ws. k ≡ placeAfter (now (d .words)) (d .at)) (λ k ws. id⊢ 𝓤 _) (id⊢ 𝓤 _)
+    (λ P. and-then ! (val ! 2 refl) (and-then ! (val ! 2 refl) (no-more !))) (λ k ws e is.
     -- [the place; the token; true; what the reader owns; the locals; true]
     lands-in ! 4 refl (uint-lawful 𝓤 H A W w64 .typed k _ is .0) $
     sets ! 4 (agg ! (and-then ! (val ! 4 refl) (and-then ! (val ! 4 refl) (no-more !)))) refl (tt, (wt .1 .0, (record { fits = is .1 }, tt))) $
-    drop ! $ move ! (1 ∷ []) $ drop ! $ move ! (1 ∷ []) $ use1 W (‵ (owns (B κs ∷ []) (d, tt) (lowered d ∷ [], tt)) ⊛ ‵ (Own 𝓤 H A W κ d)) (copied 𝓤 H A W κ d) $ split ! $
-    move ! (1 ∷ []) $ use1 W (‵ (Own 𝓤 H A W κ (gone 𝓤 H A W κ d k))) (moved 𝓤 H A W κ d k (is .1)) $ move ! (2 ∷ 1 ∷ 0 ∷ []) $ fronts ! (env (code.function .locals) bs) 3 $
+    drop ! $ move ! (1 ∷ []) $ drop ! $ move ! (1 ∷ []) $
+    use1 W (‵ (owns (B κs ∷ []) (d, tt) (lowered d ∷ [], tt)) ⊛ ‵ (Own 𝓤 H A W κ d)) (copied 𝓤 H A W κ d) $ split ! $
+    move ! (1 ∷ []) $ use1 W (‵ (Own 𝓤 H A W κ (gone 𝓤 H A W κ d k))) (moved 𝓤 H A W κ d k (is .1)) $ move ! (2 ∷ 1 ∷ 0 ∷ []) $
+    fronts ! (env (code.function .locals) bs) 3 $
     leaves ! (some _ ∷ some _ ∷ some _ ∷ some _ ∷ some _ ∷ some _ ∷ []) refl refl $ move ! (3 ∷ []) $ drop ! $
     ends 𝓤 H A 1 (reader ∷ []) (plain B) c κs qs bounds a g ! _ (gone 𝓤 H A W κ d k) (tt, tt) (tt, tt) (factI 𝓤 _ (emp 𝓤) (refl, e))))))
