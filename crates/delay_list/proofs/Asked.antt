@@ -15,7 +15,7 @@ use ghost.Atoms.{Atoms}
 use contract.Monad.{fact, factI}
 use types.Kit.{Given, ‵, _⊛_, _$_, !, move, drop, use1, split, fsplit, fjoin}
 use types.Part.{whole, sub}
-use types.Run.{of-opd, and-then, no-more, params1, pass0}
+use types.Run.{of-opd, and-then, no-more}
 use sound.WpLaws.{fmOf}
 use denote.RattleType.{RattleType}
 use denote.Laws.{Is, Tells}
@@ -27,7 +27,7 @@ use denote.Triple.Statement.{Triple}
 use Rattle.delay_list.proofs.Reader.Laws as T′
 use Rattle.delay_list.proofs.Called.{Promise, asks}
 use Rattle.delay_list.proofs.Held.{lowered, wordsVal, reader, ofReader, ofWords, typed, Own, Parts, apart}
-use Rattle.delay_list.proofs.Locals.{env, begins, takes, val, part, sets, lands-in, fronts, leaves}
+use Rattle.delay_list.proofs.Locals.{env, begins, val, part, sets, lands-in, fronts, leaves}
 use Rattle.delay_list.proofs.Params.{ends, meets}
 
 -- the code: `f(self.words, self.at)`, with a result of the type τ
@@ -71,7 +71,7 @@ module _ {M : Type 1} (𝓤 : URA M) (H : Heap 𝓤) (A : Atoms 𝓤) (W : Given
       let d = a .0 in
       let wt = typed 𝓤 H A W κ d (are .0) in
       move ! (2 ∷ []) $ heard ! (Asks (now (d .words)) (d .at)) (λ ok. move ! (1 ∷ []) $ fsplit ! $ move ! (2 ∷ 0 ∷ []) $
-      begins ! (𝓣 .C) (𝓣 .Λ) (asking τ f) (lowered d ∷ []) (λ bs. params1 ! $ takes ! refl wt $ pass0 ! $
+      begins ! (𝓣 .C) (𝓣 .Λ) (asking τ f) (lowered d ∷ []) (wt, tt) (λ bs.
       sets ! 0 (of-opd ! (part ! 0 refl (sub ! 0 refl (whole !)))) refl (tt, wt .1 .0) $
       sets ! 0 (of-opd ! (part ! 0 refl (sub ! 1 refl (whole !)))) refl (tt, wt .1 .1 .0) $
       -- [the locals; the token; what the reader owns; true]

@@ -1,14 +1,14 @@
 -- The locals of a function whose code is walked. Each has two entries of the walk's context: its cell, with a value or empty, and that it dies
 -- at the end. They stand together, the last local's first, so a local's number says where its cell is, and a walk names no positions of cells.
 --     held E vs Γ      the entries of the locals E with the values vs, in front of Γ
---     begins, takes    a function is entered: its locals are empty, then its parameters are stored
+--     begins           a function is entered: its parameters are stored, its other locals are empty
 --     val, part        local i is read, or a field of it
 --     sets, lands-in   it is filled by an assignment, or by a call.        copies-last      it is overwritten, at the end of a turn
 --     tests            the test of a loop
 --     fronts           the entries in front of the locals go behind them.        clears     the locals that are not marked are emptied
 --     leaves           the function returns, and all locals are freed
 -- The number s of a law says how many entries stand in front of the locals.
-use mathlib.Core.Path.{_≡_, sym, subst}
+use mathlib.Core.Path.{_≡_, refl, sym, subst}
 use mathlib.Core.Bool.{Bool, true, false, not}
 use mathlib.Core.Option.{Option, some, none}
 use mathlib.Core.List.{List, [], _∷_}
@@ -28,7 +28,7 @@ use types.Kit.{Given, Item, ‵, raw, mean, ⋆, nth, del, put, pull, unpull, se
 use types.Kit.{passes, atRet, Seq, Step, step, _$_, _∵_, !, qed, move, join, by, done}
 use types.Part.{Part, look-in}
 use types.Run.{Opd, Rv, look, init, store, stop, fld, from, load, of-opd, assigns, assigns-last, land, first, skips, jumps, branches, returns}
-use types.Run.{enter, alloc1, alloc0, pass1}
+use types.Run.{Writes, enter, alloc1, alloc0, params1, pass1, pass0}
 
 -- each local's type and its block
 abbrev pub Env : Type 0
@@ -79,6 +79,22 @@ module _ {M : Type 1} {𝓤 : URA M} where
   -- what stands behind them
   abbrev pub behind : Env → List (Item 𝓤) → List (Item 𝓤)
   behind E Γ = dropped (2 * length E) Γ
+
+-- the values of the first locals
+abbrev somes : List Val → List (Option Val)
+somes [] = []
+somes (v ∷ vs) = some v ∷ somes vs
+
+-- each has its local's type
+abbrev pub FitIn : List Local → List Val → Type 0
+FitIn ls [] = Unit {0}
+FitIn [] (v ∷ vs) = ⊥
+FitIn (local τ h ∷ ls) (v ∷ vs) = (Holds (hasTy τ v) × WT v) × FitIn ls vs
+
+-- the parameters are the locals after the result
+abbrev pub Passing : List Local → List Val → Type 0
+Passing [] vs = ⊥
+Passing (l ∷ ls) vs = FitIn ls vs
 
 -- only the values that are marked
 abbrev pub marked : List Bool → List (Option Val) → List (Option Val)
@@ -148,6 +164,21 @@ module _ {M : Type 1} (𝓤 : URA M) (H : Heap 𝓤) (A : Atoms 𝓤) (W : Given
       (qed W (‵ (froom τ b 0) ∷ ‵ (fdies τ b) ∷ raw G ∷ []) ∵ join ! $ done !)))
       (freed-first E R G)
 
+-- ---- where a cell stands
+
+abbrev below : Env → ℕ → ℕ
+below [] k = k
+below (e ∷ E) k = below E (suc (suc k))
+
+module _ {M : Type 1} (𝓤 : URA M) (H : Heap 𝓤) (A : Atoms 𝓤) where
+  nth-held : (E : Env) (vs : List (Option Val)) (k : ℕ) (Γ : List (Item 𝓤)) → nth 𝓤 H A (below E k) (held E vs Γ) ≡ nth 𝓤 H A k Γ
+  nth-held [] vs k Γ = refl
+  nth-held ((τ, b) ∷ E) vs k Γ = nth-held E (tail vs) (suc (suc k)) (cell τ b vs ∷ ‵ (fdies τ b) ∷ Γ)
+
+  put-held : (E : Env) (vs : List (Option Val)) (k : ℕ) (j : Item 𝓤) (Γ : List (Item 𝓤)) → put 𝓤 H A (below E k) j (held E vs Γ) ≡ held E vs (put 𝓤 H A k j Γ)
+  put-held [] vs k j Γ = refl
+  put-held ((τ, b) ∷ E) vs k j Γ = put-held E (tail vs) (suc (suc k)) j (cell τ b vs ∷ ‵ (fdies τ b) ∷ Γ)
+
 -- ---- the laws of a walk
 
 module _ {M : Type 1} {𝓤 : URA M} {H : Heap 𝓤} {A : Atoms 𝓤} {K : Type 0} {W : Given 𝓤 H A} where
@@ -156,19 +187,28 @@ module _ {M : Type 1} {𝓤 : URA M} {H : Heap 𝓤} {A : Atoms 𝓤} {K : Type 
   allocates t [] k = alloc0 t $ k tt
   allocates t {Kt = Kt} (local τ h ∷ ls) k = alloc1 t (λ b. allocates t {Kt = λ E. Kt ((τ, b) ∷ E)} ls (λ bs. k (b, bs)))
 
-  module _ {Γ : List (Item 𝓤)} where
-    -- a function is entered
-    pub begins : K → (C : Calls 𝓤 H) (Λ : Loops 𝓤 H) (f : Fn) (vs : List Val) {Kf : Val → SProp 𝓤}
-        → ((bs : Blocks (f .locals))
-        → Seq K W (held (env (f .locals) bs) [] Γ) (params′ (env (f .locals) bs) vs (runs C Λ (env (f .locals) bs) (f .body) (atRet (env (f .locals) bs) Kf))))
-        → Seq K W Γ (prop (WpFn 𝓤 H C Λ f vs Kf))
-    begins t C Λ f vs {Kf} k = enter t C Λ f vs Kf $ allocates t (f .locals) k
+  fills : K → (ls : List Local) (bs : Blocks ls) (vs : List Val) (Γ : List (Item 𝓤)) {g : Goal 𝓤 H} → FitIn ls vs
+      → Seq K W (held (env ls bs) (somes vs) Γ) g → Seq K W (held (env ls bs) [] Γ) (passes (env ls bs) vs g)
+  fills t ls bs [] Γ fit s = pass0 t $ s
+  fills t [] bs (v ∷ vs) Γ fit s = absurd fit
+  fills t (local τ h ∷ ls) bs (v ∷ vs) Γ fit s =
+      let E = env ls (bs .1) in
+      let Δ : List (Item 𝓤) = ‵ (froom τ (bs .0) 0) ∷ ‵ (fdies τ (bs .0)) ∷ Γ in
+      pass1 t (subst (λ (Z : List (Item 𝓤)). Writes K W (held E [] Δ) τ (bs .0) 0 v Z) (put-held 𝓤 H A E [] 0 (‵ (fat fullShare τ (bs .0) 0 v)) Δ)
+      (init t (below E 0) (nth-held 𝓤 H A E [] 0 Δ) (fit .0))) $ fills t ls (bs .1) vs (‵ (fat fullShare τ (bs .0) 0 v) ∷ ‵ (fdies τ (bs .0)) ∷ Γ) (fit .1) s
 
-    -- the next parameter is stored
-    pub takes : K → {τ : Ty} {b : ℕ} {E : Env} {v : Val} {vs : List Val} {g : Goal 𝓤 H} → nth 𝓤 H A (2 * length E) Γ ≡ ‵ (froom τ b 0)
-        → Holds (hasTy τ v) × WT v
-        → Step K W (put 𝓤 H A (2 * length E) (‵ (fat fullShare τ b 0 v)) Γ) (passes E vs g) Γ (passes ((τ, b) ∷ E) (v ∷ vs) g)
-    takes t {E = E} e wt = pass1 t (init t (2 * length E) e wt)
+  passed : K → (ls : List Local) (bs : Blocks ls) (vs : List Val) (Γ : List (Item 𝓤)) {g : Goal 𝓤 H} → Passing ls vs
+      → Seq K W (held (env ls bs) (none ∷ somes vs) Γ) g → Seq K W (held (env ls bs) [] Γ) (params′ (env ls bs) vs g)
+  passed t [] bs vs Γ fit s = absurd fit
+  passed t (local τ h ∷ ls) bs vs Γ fit s = params1 t $ fills t ls (bs .1) vs (‵ (froom τ (bs .0) 0) ∷ ‵ (fdies τ (bs .0)) ∷ Γ) fit s
+
+  module _ {Γ : List (Item 𝓤)} where
+    -- a function is entered: its locals are empty but for the parameters
+    pub begins : K → (C : Calls 𝓤 H) (Λ : Loops 𝓤 H) (f : Fn) (vs : List Val) {Kf : Val → SProp 𝓤} → Passing (f .locals) vs
+        → ((bs : Blocks (f .locals)) → Seq K W (held (env (f .locals) bs) (none ∷ somes vs) Γ)
+          (runs C Λ (env (f .locals) bs) (f .body) (atRet (env (f .locals) bs) Kf)))
+        → Seq K W Γ (prop (WpFn 𝓤 H C Λ f vs Kf))
+    begins t C Λ f vs {Kf} fit k = enter t C Λ f vs Kf $ allocates t (f .locals) (λ bs. passed t (f .locals) bs vs Γ fit (k bs))
 
     module _ {E : Env} {i : ℕ} where
       -- local i is read

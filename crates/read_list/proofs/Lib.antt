@@ -1,2 +1,3 @@
 mod Lent
+mod Storing
 mod TurnLaws

@@ -6,7 +6,7 @@ use base.Logic.{emp, id⊢}
 use contract.Monad.{factI}
 use contract.Running.{givenOf, tables, tablesOf}
 use types.Kit.{_$_, !, move, drop, fsplit, fjoin}
-use types.Run.{and-then, no-more, params1, pass0}
+use types.Run.{and-then, no-more}
 use sound.WpLaws.{fmOf}
 use mir.Syntax.{named}
 use denote.Builtin.{u32}
@@ -22,7 +22,7 @@ use Rattle.list_format.specs.Lists.{PairIn, IsPair}
 use Rattle.delay_list.proofs.Asking.{makes, asks-it}
 use Rattle.delay_list.proofs.Called.{Promise}
 use Rattle.delay_list.proofs.Held.{typed}
-use Rattle.delay_list.proofs.Locals.{env, begins, takes, val, lands-in, fronts, leaves}
+use Rattle.delay_list.proofs.Locals.{env, begins, val, lands-in, fronts, leaves}
 use Rattle.delay_list.proofs.Params.{words, place, ends, meets}
 use Rattle.delay_list.proofs.Reader.new as new
 use Rattle.delay_list.proofs.Reader.new.Symbol as new-def
@@ -57,8 +57,7 @@ pair-at-spec 𝓤 H 𝓜 𝓖 𝓡 =
     let k = a .1 .0 in
     let fits = are .1 .0 .1 in
     move ! (2 ∷ []) $ heard ! (PairIn (now s) k) (λ ok. move ! (1 ∷ []) $ fsplit ! $ move ! (2 ∷ 0 ∷ []) $
-    begins ! (𝓣 .C) (𝓣 .Λ) code.function _ (λ bs. params1 ! $
-    takes ! refl (shr-slice-lawful 𝓤 H A W (named 0) κ u32 .typed s _ (are .0) .0) $ takes ! refl (tt, record { fits = fits }) $ pass0 ! $
+    begins ! (𝓣 .C) (𝓣 .Λ) code.function _ (shr-slice-lawful 𝓤 H A W (named 0) κ u32 .typed s _ (are .0) .0, ((tt, record { fits = fits }), tt)) (λ bs.
     -- [the locals; the token; what the words own; what the place owns]
     move ! (8 ∷ 9 ∷ []) $ makes ! fm (𝓜 .mem) (𝓡 .run) known-new s (λ P. and-then ! (val ! 2 refl) (and-then ! (val ! 2 refl) (no-more !))) fits (λ d made is.
     lands-in ! 3 refl (typed 𝓤 H A W κ d is) $ move ! (1 ∷ 0 ∷ []) $

@@ -9,7 +9,7 @@ use contract.Monad.{factI}
 use contract.Running.{givenOf, tables, tablesOf}
 use types.Kit.{‵, _⊛_, _$_, !, move, drop, use1, split, fsplit}
 use types.Part.{whole, sub, agg}
-use types.Run.{of-opd, and-then, no-more, params1, pass0}
+use types.Run.{of-opd, and-then, no-more}
 use sound.WpLaws.{fmOf}
 use denote.RattleType.{owns}
 use denote.Plain.{uint-tells, uint-lawful}
@@ -19,7 +19,7 @@ use denote.Triple.Table.{entered, cited}
 use Rattle.list_format.specs.Walk.{placeAfter}
 use Rattle.delay_list.proofs.Called.{Promise, asks}
 use Rattle.delay_list.proofs.Held.{B, lowered, wordsVal, reader, Own, Parts, typed, copied, apart, gone, moved}
-use Rattle.delay_list.proofs.Locals.{env, begins, takes, val, part, sets, lands-in, fronts, leaves}
+use Rattle.delay_list.proofs.Locals.{env, begins, val, part, sets, lands-in, fronts, leaves}
 use Rattle.delay_list.proofs.Params.{ends, meets}
 use Rattle.delay_list.proofs.place_after as after
 use Rattle.delay_list.proofs.place_after.Symbol as after-def
@@ -46,7 +46,7 @@ advanced-spec 𝓤 H 𝓜 𝓖 𝓡 =
     let d = a .0 in
     let wt = typed 𝓤 H A W κ d (are .0) in
     move ! (2 ∷ []) $ drop ! $ move ! (1 ∷ []) $ fsplit ! $ move ! (2 ∷ 0 ∷ []) $
-    begins ! (𝓣 .C) (𝓣 .Λ) code.function (lowered d ∷ []) (λ bs. params1 ! $ takes ! refl wt $ pass0 ! $
+    begins ! (𝓣 .C) (𝓣 .Λ) code.function (lowered d ∷ []) (wt, tt) (λ bs.
     sets ! 0 (of-opd ! (part ! 0 refl (sub ! 0 refl (whole !)))) refl (tt, wt .1 .0) $
     sets ! 0 (of-opd ! (part ! 0 refl (sub ! 0 refl (whole !)))) refl (tt, wt .1 .0) $
     sets ! 0 (of-opd ! (part ! 0 refl (sub ! 1 refl (whole !)))) refl (tt, wt .1 .1 .0) $

@@ -7,7 +7,7 @@ use contract.Monad.{factI}
 use contract.Running.{givenOf, tables, tablesOf}
 use types.Kit.{‵, _⊛_, _$_, !, move, drop, use1, split}
 use types.Part.{agg}
-use types.Run.{and-then, no-more, params1, pass0}
+use types.Run.{and-then, no-more}
 use denote.Laws.{Is, shows}
 use denote.Signature.{plain}
 use denote.Steps.{peeks}
@@ -15,7 +15,7 @@ use denote.Triple.Table.{entered}
 use Rattle.delay_list.specs.declared.Reader.{Reader}
 use Rattle.delay_list.proofs.Called.{Promise}
 use Rattle.delay_list.proofs.Held.{B, lowered, Own, Parts, typed, made, apart}
-use Rattle.delay_list.proofs.Locals.{begins, takes, val, sets, leaves}
+use Rattle.delay_list.proofs.Locals.{begins, val, sets, leaves}
 use Rattle.delay_list.proofs.Params.{words, place, ends, meets}
 use Rattle.delay_list.proofs.Reader.new.Key.{name as #new}
 use Rattle.delay_list.proofs.Reader.new as new
@@ -38,7 +38,7 @@ new-spec 𝓤 H 𝓜 𝓖 𝓡 =
     let wt = typed 𝓤 H A W κ d is in
     use1 W (‵ (Parts 𝓤 H A W κ d) ⊛ ‵ (Own 𝓤 H A W κ d)) (apart 𝓤 H A W κ d) $ split ! $ move ! (2 ∷ []) $
     -- [the token; what the words and the place own; what the reader owns]
-    begins ! (𝓣 .C) (𝓣 .Λ) code.function _ (λ bs. params1 ! $ takes ! refl (tt, wt .1 .0) $ takes ! refl (tt, wt .1 .1 .0) $ pass0 ! $
+    begins ! (𝓣 .C) (𝓣 .Λ) code.function _ ((tt, wt .1 .0), ((tt, wt .1 .1 .0), tt)) (λ bs.
     sets ! 0 (agg ! (and-then ! (val ! 0 refl) (and-then ! (val ! 0 refl) (no-more !)))) refl wt $
     leaves ! (some _ ∷ some _ ∷ some _ ∷ []) refl refl $
     ends 𝓤 H A 1 (words tt ∷ place ∷ []) (plain B) c κs qs bounds a g ! (lowered d) d (tt, (tt, tt)) (tt, (tt, tt)) (factI 𝓤 _ (emp 𝓤) (refl, refl))))))
