@@ -206,7 +206,7 @@ module _ {M : Type 1} {𝓤 : URA M} {H : Heap 𝓤} {A : Atoms 𝓤} {K : Type 
     -- a function is entered: its locals are empty but for the parameters
     pub begins : K → (C : Calls 𝓤 H) (Λ : Loops 𝓤 H) (f : Fn) (vs : List Val) {Kf : Val → SProp 𝓤} → Passing (f .locals) vs
         → ((bs : Blocks (f .locals)) → Seq K W (held (env (f .locals) bs) (none ∷ somes vs) Γ)
-          (runs C Λ (env (f .locals) bs) (f .body) (atRet (env (f .locals) bs) Kf)))
+        (runs C Λ (env (f .locals) bs) (f .body) (atRet (env (f .locals) bs) Kf)))
         → Seq K W Γ (prop (WpFn 𝓤 H C Λ f vs Kf))
     begins t C Λ f vs {Kf} fit k = enter t C Λ f vs Kf $ allocates t (f .locals) (λ bs. passed t (f .locals) bs vs Γ fit (k bs))
 
