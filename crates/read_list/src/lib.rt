@@ -27,7 +27,7 @@ fn put(answer: &mut [u32], at: usize, p: Pair)
     answer[at + 3] = p.greatest;
 }
 
-// What the reader at pair k has come to: a pair is stored in its four places. Whether there was one.
+// Stores what a reader at pair k has come to: a pair in its four places, the end not at all. Whether it was a pair.
 fn store(next: Next, k: usize, answer: &mut [u32]) -> bool
     requires { ⌜ (isOne next ≡ true → 4 * k + 4 ≤ length (now answer)) ⌝ }
     ensures { λ r. ⌜ (r ≡ isOne next) × (now (answer .exit) ≡ stored next k (now (answer .entry))) ⌝ }
@@ -41,7 +41,7 @@ fn store(next: Next, k: usize, answer: &mut [u32]) -> bool
     }
 }
 
-// The numbers of all pairs of an accepted list, in the first places of the buffer.
+// The numbers of all pairs of an accepted list, in the first places of the buffer: a reader is asked for pair after pair, until the end.
 fn fill(words: &[u32], answer: &mut [u32])
     requires { ⌜ IsAccepted (now words) × (4 * pairCount (now words) ≤ length (now answer)) ⌝ }
     ensures { λ _. ⌜ now (answer .exit) ≡ over (numbersOf (now (words .entry))) (now (answer .entry)) ⌝ }

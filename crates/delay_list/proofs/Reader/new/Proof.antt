@@ -1,4 +1,4 @@
--- A reader is made of the words and the place that it is given: the walk of two stores.
+-- A reader is made of the words and the place that it is given, in one step.
 use mathlib.Core.Path.{refl}
 use mathlib.Core.Option.{some}
 use mathlib.Core.List.{[], _∷_}
