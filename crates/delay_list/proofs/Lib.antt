@@ -1,2 +1,6 @@
 pub mod Held
 pub mod Asked
+pub mod Asking
+pub mod Called
+pub mod Locals
+pub mod Params

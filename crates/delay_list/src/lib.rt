@@ -1,11 +1,11 @@
 // Whether a run of words is a delay list, the pairs of an accepted one, and the reader that walks them.
 // The contracts cite `list_format`: where a pair stands, what it is, and every check in its order.
 ghost use mathlib.Core.Path.{_≡_};
-ghost use Prim.Native.Nat.{_+_, _*_, _^_, _<_, _≤_};
+ghost use Prim.Native.Nat.{_+_, _-_, _*_, _^_, _<_, _≤_};
 ghost use lib.ListN.{length};
 ghost use Rattle.refusals.specs.Checks.{firstFault, faultAfter};
-ghost use Rattle.list_format.specs.Lists.{word, pairCount, pairPlace, placeOf, pairOf, headChecks, kindChecks, valueChecks, pairChecks, endChecks, bodyChecks, IsAccepted, PairIn, IsPair};
-ghost use Rattle.list_format.specs.Lists.{verdict as verdictOf};
+ghost use Rattle.list_format.specs.Lists.{word, pairCount, pairPlace, placeOf, pairOf, IsAccepted, PairIn, IsPair, verdict as verdictOf};
+ghost use Rattle.list_format.specs.Lists.{headChecks, kindChecks, valueChecks, pairChecks, endChecks, bodyChecks};
 ghost use Rattle.list_format.specs.Walk.{nextAt, placeAfter};
 use list_format::Next;
 use list_format::Verdict;
@@ -163,12 +163,23 @@ fn pair_count(words: &[u32]) -> usize
     words::head_pairs(first_word(words)) as usize
 }
 
+// How many pairs are left from pair k on.
+fn pairs_left(words: &[u32], k: usize) -> usize
+    ensures { λ r. ⌜ r ≡ pairCount (now (words .entry)) - k ⌝ }
+{
+    let m = pair_count(words);
+    if k < m {
+        return m - k;
+    }
+    0
+}
+
 // Pair k, or the end.
 fn next_from(words: &[u32], k: usize) -> Next
     requires { ⌜ IsAccepted (now words) ⌝ }
     ensures { λ r. ⌜ r ≡ nextAt (now (words .entry)) k ⌝ }
 {
-    if k < pair_count(words) {
+    if 0 < pairs_left(words, k) {
         return Next::One(pair_from(words, k));
     }
     Next::End

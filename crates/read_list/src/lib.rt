@@ -1,6 +1,7 @@
 // Job 1, reading: a delay list into plain numbers, four for each pair.
 // The contract cites `list_format`: `specs/Read.antt` for the outcome, `specs/RoundTrip.antt` for the whole promise.
 ghost use mathlib.Core.Path.{_≡_};
+ghost use mathlib.Core.Bool.{true};
 ghost use mathlib.Core.List.{_++_};
 ghost use Prim.Native.Nat.{_+_, _*_, _≤_};
 ghost use lib.ListN.{length, take, drop};
@@ -8,6 +9,9 @@ ghost use Rattle.buffers.specs.Over.{over};
 ghost use Rattle.list_format.specs.Lists.{pairCount, IsAccepted};
 ghost use Rattle.list_format.specs.Read.{fourOf, numbersOf};
 ghost use Rattle.list_format.specs.RoundTrip.{ReadAs};
+ghost use Rattle.read_list.specs.Stored.{isOne, stored};
+use delay_list::Reader;
+use list_format::Next;
 use list_format::Reading;
 use list_format::Verdict;
 use timing::Pair;
@@ -23,15 +27,29 @@ fn put(answer: &mut [u32], at: usize, p: Pair)
     answer[at + 3] = p.greatest;
 }
 
-// The numbers of all m pairs of an accepted list, in the first places of the buffer.
-fn fill(words: &[u32], m: usize, answer: &mut [u32])
-    requires { ⌜ IsAccepted (now words) × ((m ≡ pairCount (now words)) × (4 * m ≤ length (now answer))) ⌝ }
+// Stores what a reader at pair k has come to: a pair in its four places, the end not at all. Whether it was a pair.
+fn store(next: Next, k: usize, answer: &mut [u32]) -> bool
+    requires { ⌜ (isOne next ≡ true → 4 * k + 4 ≤ length (now answer)) ⌝ }
+    ensures { λ r. ⌜ (r ≡ isOne next) × (now (answer .exit) ≡ stored next k (now (answer .entry))) ⌝ }
+{
+    match next {
+        Next::One(p) => {
+            put(answer, 4 * k, p);
+            true
+        }
+        Next::End => false,
+    }
+}
+
+// The numbers of all pairs of an accepted list, in the first places of the buffer: a reader is asked for pair after pair, until the end.
+fn fill(words: &[u32], answer: &mut [u32])
+    requires { ⌜ IsAccepted (now words) × (4 * pairCount (now words) ≤ length (now answer)) ⌝ }
     ensures { λ _. ⌜ now (answer .exit) ≡ over (numbersOf (now (words .entry))) (now (answer .entry)) ⌝ }
 {
-    let mut k = 0;
-    while k < m {
-        put(answer, 4 * k, delay_list::pair_at(words, k));
-        k += 1;
+    let mut reader = Reader::new(words, 0);
+    while store(reader.next(), reader.at, answer) {
+        let further = reader.advanced();
+        reader = further;
     }
 }
 
@@ -47,7 +65,7 @@ pub fn read(words: &[u32], answer: &mut [u32]) -> Reading
             if answer.len() < 4 * count {
                 return Reading::Refused(2, 0);
             }
-            fill(words, count, answer);
+            fill(words, answer);
             Reading::Read(n, m)
         }
     }

@@ -6,7 +6,13 @@ use Rattle.delay_list.proofs.end_fault.Tie as tie
 
 returns : tie.Need-returns
 unfolding orCheck faultAfter
-returns c = rw (c .or2 .ensures, c .before .payload .ensures, c .before .before .or .ensures, c .before .before .before .kind .ensures, c .before .before .before .before .end-payload .ensures)
+returns c = rw (
+  c .or2 .ensures,
+  c .before .payload .ensures,
+  c .before .before .or .ensures,
+  c .before .before .before .kind .ensures,
+  c .before .before .before .before .end-payload .ensures,
+)
 
 pub end-fault-spec : {M : Type 1} → statement M
 end-fault-spec =

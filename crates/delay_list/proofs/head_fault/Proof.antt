@@ -6,7 +6,20 @@ use Rattle.delay_list.proofs.head_fault.Tie as tie
 
 returns : tie.Need-returns
 unfolding orCheck faultAfter
-returns c = rw (c .or7 .ensures, c .before .pair-place .ensures, c .before .before .or6 .ensures, c .before .before .before .or5 .ensures, c .before .before .before .before .or4 .ensures, c .before .before .before .before .before .or3 .ensures, c .before .before .before .before .before .before .head-spare .ensures, c .before .before .before .before .before .before .before .or2 .ensures, c .before .before .before .before .before .before .before .before .kind .ensures, c .before .before .before .before .before .before .before .before .before .or .ensures, c .before .before .before .before .before .before .before .before .before .before .head-pairs .ensures, c .before .before .before .before .before .before .before .before .before .before .before .head-registers .ensures)
+returns c = rw (
+  c .or7 .ensures,
+  c .before .pair-place .ensures,
+  c .before .before .or6 .ensures,
+  c .before .before .before .or5 .ensures,
+  c .before .before .before .before .or4 .ensures,
+  c .before .before .before .before .before .or3 .ensures,
+  c .before .before .before .before .before .before .head-spare .ensures,
+  c .before .before .before .before .before .before .before .or2 .ensures,
+  c .before .before .before .before .before .before .before .before .kind .ensures,
+  c .before .before .before .before .before .before .before .before .before .or .ensures,
+  c .before .before .before .before .before .before .before .before .before .before .head-pairs .ensures,
+  c .before .before .before .before .before .before .before .before .before .before .before .head-registers .ensures,
+)
 
 pub head-fault-spec : {M : Type 1} → statement M
 head-fault-spec =

@@ -6,7 +6,16 @@ use Rattle.delay_list.proofs.kind_fault.Tie as tie
 
 returns : tie.Need-returns
 unfolding orCheck faultAfter
-returns c = rw (c .or4 .ensures, c .before .kind3 .ensures, c .before .before .or3 .ensures, c .before .before .before .kind2 .ensures, c .before .before .before .before .or2 .ensures, c .before .before .before .before .before .pair-spare .ensures, c .before .before .before .before .before .before .or .ensures, c .before .before .before .before .before .before .before .kind .ensures)
+returns c = rw (
+  c .or4 .ensures,
+  c .before .kind3 .ensures,
+  c .before .before .or3 .ensures,
+  c .before .before .before .kind2 .ensures,
+  c .before .before .before .before .or2 .ensures,
+  c .before .before .before .before .before .pair-spare .ensures,
+  c .before .before .before .before .before .before .or .ensures,
+  c .before .before .before .before .before .before .before .kind .ensures,
+)
 
 pub kind-fault-spec : {M : Type 1} → statement M
 kind-fault-spec =

@@ -7,7 +7,11 @@ use Rattle.delay_list.proofs.pair_fault.Statement.{statement}
 use Rattle.delay_list.proofs.pair_fault.Tie as tie
 
 returns : tie.Need-returns
-returns c = c .value-fault .ensures ∙ rw (c .before .pair-of .ensures, c .before .before .kind-fault .ensures, c .before .before .before .before .before .before .pair-place .ensures) (sym (fault-append None _ _))
+returns c = c .value-fault .ensures ∙ rw (
+  c .before .pair-of .ensures,
+  c .before .before .kind-fault .ensures,
+  c .before .before .before .before .before .before .pair-place .ensures,
+) (sym (fault-append None _ _))
 
 pub pair-fault-spec : {M : Type 1} → statement M
 pair-fault-spec =

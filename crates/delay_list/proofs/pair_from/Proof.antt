@@ -6,16 +6,32 @@ use Rattle.delay_list.proofs.pair_from.Statement.{statement}
 use Rattle.delay_list.proofs.pair_from.Tie as tie
 
 shared-slice-read-pair-of : tie.Need-shared-slice-read-pair-of
-shared-slice-read-pair-of c = omega (arith, stands (c .before .before .before .args .words .now) (c .before .before .before .args .k) (c .before .before .before .pre))
+shared-slice-read-pair-of c =
+    omega (arith, stands (c .before .before .before .args .words .now) (c .before .before .before .args .k) (c .before .before .before .pre))
 
 shared-slice-read-pair-of-2 : tie.Need-shared-slice-read-pair-of-2
-shared-slice-read-pair-of-2 c = omega (arith, stands (c .before .before .before .before .args .words .now) (c .before .before .before .before .args .k) (c .before .before .before .before .pre))
+shared-slice-read-pair-of-2 c =
+    omega (
+      arith,
+      stands (c .before .before .before .before .args .words .now) (c .before .before .before .before .args .k)
+          (c .before .before .before .before .pre),
+    )
 
 shared-slice-read-pair-of-3 : tie.Need-shared-slice-read-pair-of-3
-shared-slice-read-pair-of-3 c = omega (arith, stands (c .before .before .before .before .before .args .words .now) (c .before .before .before .before .before .args .k) (c .before .before .before .before .before .pre))
+shared-slice-read-pair-of-3 c =
+    omega (
+      arith,
+      stands (c .before .before .before .before .before .args .words .now) (c .before .before .before .before .before .args .k)
+          (c .before .before .before .before .before .pre),
+    )
 
 returns : tie.Need-returns
-returns c = rw (c .pair-of .ensures, c .before .before .before .before .pair-place .ensures) (is-pair (c .before .before .before .before .before .before .args .words .now) (c .before .before .before .before .before .before .args .k) (c .before .before .before .before .before .before .pre))
+returns c = rw (
+  c .pair-of .ensures,
+  c .before .before .before .before .pair-place .ensures,
+)
+    (is-pair (c .before .before .before .before .before .before .args .words .now) (c .before .before .before .before .before .before .args .k)
+    (c .before .before .before .before .before .before .pre))
 
 pub pair-from-spec : {M : Type 1} → statement M
 pair-from-spec =

@@ -6,7 +6,13 @@ use Rattle.delay_list.proofs.value_fault.Tie as tie
 
 returns : tie.Need-returns
 unfolding orCheck faultAfter
-returns c = rw (c .or5 .ensures, c .before .before .or4 .ensures, c .before .before .before .before .or3 .ensures, c .before .before .before .before .before .before .or2 .ensures, c .before .before .before .before .before .before .before .before .or .ensures)
+returns c = rw (
+  c .or5 .ensures,
+  c .before .before .or4 .ensures,
+  c .before .before .before .before .or3 .ensures,
+  c .before .before .before .before .before .before .or2 .ensures,
+  c .before .before .before .before .before .before .before .before .or .ensures,
+)
 
 pub value-fault-spec : {M : Type 1} → statement M
 value-fault-spec =

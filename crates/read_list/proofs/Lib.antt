@@ -1,0 +1,3 @@
+mod Lent
+mod Storing
+mod TurnLaws
