@@ -27,7 +27,8 @@ use Rattle.list_format.specs.Lists.{registers, pairCount, pairAt, pairs, listCh
 use Rattle.list_format.specs.declared.Verdict.the-variants as Verdict
 use Rattle.list_format.specs.declared.Verdict.the-variants.{Accepted}
 use Rattle.list_format.proofs.ListLaws.{refused→fault, accepted→none, none→accepted, same, no-difference, each-pair, pair-holds}
-use Rattle.checker.specs.Check.{setupAt, holdAt, metAt, firstBroken, brokenRule, found, someAbove, timingChecks, checkChecks, checking, ruleNumber, checkReply, CheckedAs, Passes}
+use Rattle.checker.specs.Check.{setupAt, holdAt, metAt, firstBroken, brokenRule, found, ruleNumber}
+use Rattle.checker.specs.Check.{someAbove, timingChecks, checkChecks, checking, checkReply, CheckedAs, Passes}
 use Rattle.checker.specs.declared.Rule.{Rule}
 use Rattle.checker.specs.declared.Rule.the-variants.{Setup, Hold}
 use Rattle.checker.specs.declared.Checking.{Checking}
@@ -35,7 +36,8 @@ use Rattle.checker.specs.declared.Checking.the-variants.{Admissible, Bro
 
 -- ---- one pair
 
-module _ (t : ℕ) (s : List ℕ) {ws : List ℕ} {k : ℕ} {p : Pair} (is : IsPair ws k p) {a : Bool} (setup : a ≡ setupMet p t (time s (p .launch)) (time s (p .capture))) where
+module _ (t : ℕ) (s : List ℕ) {ws : List ℕ} {k : ℕ} {p : Pair} (is : IsPair ws k p) {a : Bool}
+    (setup : a ≡ setupMet p t (time s (p .launch)) (time s (p .capture))) where
   setup-same : a ≡ setupAt ws t s k
   unfolding setupAt
   setup-same = setup ∙ ap (λ (q : Pair). setupMet q t (time s (q .launch)) (time s (q .capture))) (is .same)
@@ -109,7 +111,8 @@ module _ (ws : List ℕ) (t : ℕ) (s : List ℕ) where
   pub none-test : eqb (firstBroken ws t s) (pairCount ws) ≡ admissible t (pairs ws) s
   none-test = go (eq-or-lt-of-le (first-is .upto))
     where
-      go : (firstBroken ws t s ≡ pairCount ws) ⊎ (firstBroken ws t s < pairCount ws) → eqb (firstBroken ws t s) (pairCount ws) ≡ admissible t (pairs ws) s
+      go : (firstBroken ws t s ≡ pairCount ws) ⊎ (firstBroken ws t s < pairCount ws)
+          → eqb (firstBroken ws t s) (pairCount ws) ≡ admissible t (pairs ws) s
       go (inl e) = eq-eqb _ _ e ∙ sym (none-admissible (omega arith))
       go (inr l) = ne-eqb (firstBroken ws t s) (pairCount ws) (λ e. omega arith) ∙ sym (some-broken l)
 

@@ -74,7 +74,8 @@ pub record Climbing (ws : List ℕ) (t : ℕ) (x : List ℕ) (next : ℕ) : Type
   pub bound : Bound (pairs ws) t
   pub sought : Sought ws t x next
 
-pub climbing-after : {ws : List ℕ} {count t next : ℕ} {x y : List ℕ} → Trial ws count t x → length y ≡ length x → Sought ws t y next → Climbing ws t y next
+pub climbing-after : {ws : List ℕ} {count t next : ℕ} {x y : List ℕ} → Trial ws count t x → length y ≡ length x
+    → Sought ws t y next → Climbing ws t y next
 climbing-after p e s = record { size = e ∙ p .list .registersAre; pos = p .pos; bound = p .bound; sought = s }
 
 module _ {ws : List ℕ} {n count : ℕ} (r : AcceptedList ws n count) where

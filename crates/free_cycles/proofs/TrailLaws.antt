@@ -35,7 +35,14 @@ module _ {ws : List ℕ} {count n : ℕ} {w : Trail} (r : AcceptedList ws n coun
 
   module _ {k : ℕ} {p : Pair} (is : IsPair ws k p) (h : k < count) where
     pub back-setup : p .capture ≡ w .at
-        → Further ws n w (record { start = w .start; at = p .launch; steps = w .steps + 1; gain = w .gain + p .greatest; allowance = w .allowance; setups = w .setups + 1 })
+        → Further ws n w (record {
+          start = w .start;
+          at = p .launch;
+          steps = w .steps + 1;
+          gain = w .gain + p .greatest;
+          allowance = w .allowance;
+          setups = w .setups + 1;
+        })
     back-setup e =
         record {
           start = refl;
@@ -51,7 +58,14 @@ module _ {ws : List ℕ} {count n : ℕ} {w : Trail} (r : AcceptedList ws n coun
         }
 
     pub back-hold : p .launch ≡ w .at
-        → Further ws n w (record { start = w .start; at = p .capture; steps = w .steps + 1; gain = w .gain; allowance = w .allowance + p .least; setups = w .setups })
+        → Further ws n w (record {
+          start = w .start;
+          at = p .capture;
+          steps = w .steps + 1;
+          gain = w .gain;
+          allowance = w .allowance + p .least;
+          setups = w .setups;
+        })
     back-hold e =
         record {
           start = refl;

@@ -35,7 +35,8 @@ rules-at {ws} {k} is h t f m =
 abbrev PairAttained : ℕ → List ℕ → List ℕ → Pair → Type 0
 PairAttained t x y p = Attained maxTiming x y (setup t p) × Attained maxTiming x y (hold p)
 
-reached-more : (t : ℕ) (x x′ y y′ : List ℕ) (p : Pair) → Below x (time x′) → Below y (time y′) → PairAttained t x′ y p → PairAttained t x y′ p
+reached-more : (t : ℕ) (x x′ y y′ : List ℕ) (p : Pair) → Below x (time x′) → Below y (time y′)
+    → PairAttained t x′ y p → PairAttained t x y′ p
 reached-more t x x′ y y′ p a b h =
     (attained-more maxTiming x x′ y y′ (setup t p) a b (h .0), attained-more maxTiming x x′ y y′ (hold p) a b (h .1))
 
@@ -51,7 +52,11 @@ module _ {ws : List ℕ} {count t : ℕ} {x₀ : List ℕ} (r : Raising ws count
 
     module _ {x : List ℕ} (s : Risen maxTiming (constraints t (pairs ws)) x₀ x) {p : Pair} (is : IsPair ws k p) where
       inside : InRange (length x) p
-      inside = record { launch = omega (arith, is .values .launch, s .size, r .list .registersAre); capture = omega (arith, is .values .capture, s .size, r .list .registersAre) }
+      inside =
+          record {
+            launch = omega (arith, is .values .launch, s .size, r .list .registersAre);
+            capture = omega (arith, is .values .capture, s .size, r .list .registersAre);
+          }
 
       pub turn-ready : Relaxable x p t k
       turn-ready =
@@ -80,7 +85,8 @@ module _ {ws : List ℕ} {count t : ℕ} {x₀ : List ℕ} (r : Raising ws count
 pub risen-then : {c : ℕ} {rs : List Constraint} {x y z : List ℕ} → Risen c rs x y → Risen c rs y z → Risen c rs x z
 risen-then a b = record { size = b .size ∙ a .size; capped = b .capped; low = λ f m l. b .low f m (a .low f m l) }
 
-pub raising-kept : {ws : List ℕ} {count t : ℕ} {rs : List Constraint} {x y : List ℕ} → Raising ws count t x → Risen maxTiming rs x y → Raising ws count t y
+pub raising-kept : {ws : List ℕ} {count t : ℕ} {rs : List Constraint} {x y : List ℕ} → Raising ws count t x
+    → Risen maxTiming rs x y → Raising ws count t y
 raising-kept r s =
     record {
       list = record { accepted = r .list .accepted; registersAre = s .size ∙ r .list .registersAre; pairsAre = r .list .pairsAre };
@@ -102,8 +108,8 @@ module _ {ws : List ℕ} {count t : ℕ} {x₀ : List ℕ} (r : Raising ws count
   part-start = record { bound = zero-le; risen = risen-start r; up = λ j. le-refl _; attained = λ j h. absurd (omega arith) }
 
   module _ {x : List ℕ} {i : ℕ} (s : Part ws t down x₀ x i) where
-    pub part-turn : {k : ℕ} {p : Pair} {y : List ℕ} → (h : k < count) → k ≡ placeOf count down i → i < count → IsPair ws k p → y ≡ relaxTo maxTiming t p x
-        → Part ws t down x₀ y (i + 1)
+    pub part-turn : {k : ℕ} {p : Pair} {y : List ℕ} → (h : k < count) → k ≡ placeOf count down i → i < count → IsPair ws k p
+        → y ≡ relaxTo maxTiming t p x → Part ws t down x₀ y (i + 1)
     part-turn {k} {p} h at l is e =
         let z : List ℕ = relaxTo maxTiming t p x in
         let o = turned r h (s .risen) is in
@@ -125,7 +131,8 @@ module _ {ws : List ℕ} {count t : ℕ} {x₀ : List ℕ} (r : Raising ws count
             up = s .up;
             low = s .risen .low;
             attained = each-rule (Attained maxTiming x₀ x) t (λ p b. b) (pairs ws)
-                (each-pair ws (PairAttained t x₀ x) (each-place (λ k. PairAttained t x₀ x (pairAt ws k)) (pairCount ws) down (λ j l. s .attained j (omega (arith, r .list .pairsAre)))));
+                (each-pair ws (PairAttained t x₀ x)
+                (each-place (λ k. PairAttained t x₀ x (pairAt ws k)) (pairCount ws) down (λ j l. s .attained j (omega (arith, r .list .pairsAre)))));
           };
           capped = s .risen .capped;
         }

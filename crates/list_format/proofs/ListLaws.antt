@@ -16,7 +16,9 @@ use Rattle.refusals.specs.declared.Fault.{Fault}
 use Rattle.refusals.specs.declared.Fault.the-variants.{None, At}
 use Rattle.refusals.proofs.CheckLaws.{stop-first, pass-first, both-pass, pass-both, passed, passes, each-passes, all-pass}
 use Rattle.refusals.proofs.ReplyLaws.{numbers-none}
-use Rattle.list_format.specs.Lists.{word, registers, pairCount, pairPlace, pairAt, pairsFrom, pairs, placeOf, differ, headChecks, kindChecks, valueChecks, pairChecks, endChecks, bodyChecks, listChecks, judged, verdict, ValuesIn, IsAccepted, AcceptedList, PairIn, IsPair}
+use Rattle.list_format.specs.Lists.{word, registers, pairCount, pairPlace, pairAt, pairsFrom, pairs, placeOf}
+use Rattle.list_format.specs.Lists.{differ, headChecks, kindChecks, valueChecks, pairChecks, endChecks, bodyChecks, listChecks}
+use Rattle.list_format.specs.Lists.{judged, verdict, ValuesIn, IsAccepted, AcceptedList, PairIn, IsPair}
 use Rattle.list_format.specs.declared.Verdict.{Verdict}
 use Rattle.list_format.specs.declared.Verdict.the-variants.{Accepted, Refused}
 
@@ -36,7 +38,8 @@ module _ (ws : List ℕ) where
   head-refuses e = fault→refused (stop-first (headChecks (word ws 0) (length ws)) (bodyChecks ws (registers ws) (pairCount ws)) e)
 
   module _ (head : firstFault (headChecks (word ws 0) (length ws)) ≡ None) where
-    pub body-refuses : {number place : ℕ} → firstFault (bodyChecks ws (registers ws) (pairCount ws)) ≡ At number place → verdict ws ≡ Refused number place
+    pub body-refuses : {number place : ℕ} → firstFault (bodyChecks ws (registers ws) (pairCount ws)) ≡ At number place
+        → verdict ws ≡ Refused number place
     body-refuses e = fault→refused (pass-first (headChecks (word ws 0) (length ws)) (bodyChecks ws (registers ws) (pairCount ws)) head ∙ e)
 
     pub body-accepts : firstFault (bodyChecks ws (registers ws) (pairCount ws)) ≡ None → IsAccepted ws
@@ -144,7 +147,10 @@ module _ (ws : List ℕ) where
         le-ltb (length ws) 2 (omega (arith, h .size)),
         (
           no-difference _ _ (h .kind),
-          (no-difference _ _ (h .spare), (ne-eqb (registers ws) 0 (λ e. omega (arith, h .some)), (le-ltb _ _ (h .most), (le-ltb _ _ (h .few), (no-difference _ _ (h .size), tt))))),
+          (
+            no-difference _ _ (h .spare),
+            (ne-eqb (registers ws) 0 (λ e. omega (arith, h .some)), (le-ltb _ _ (h .most), (le-ltb _ _ (h .few), (no-difference _ _ (h .size), tt)))),
+          ),
         ),
       )
 

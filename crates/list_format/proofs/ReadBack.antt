@@ -106,7 +106,9 @@ module _ (ws : List ℕ) (l : ListIn ws) where
       each k b =
           let z : 0 + k ≡ k = omega arith in
           let below : k < pairCount ws = omega (arith, count-is ws) in
-          rw z (ap (λ p. firstFault (valueChecks (registers ws) p k k k)) (given-is k below) ∙ values-pass (registers ws) (pairAt ws k) k k k (l .values k below))
+          rw z
+          (ap (λ p. firstFault (valueChecks (registers ws) p k k k)) (given-is k below)
+          ∙ values-pass (registers ws) (pairAt ws k) k k k (l .values k below))
 
   pub read-back : (room : ℕ) → length ws ≤ room → writing (registers ws) (numbersOf ws) room ≡ done (length ws ∷ []) ws
   unfolding writing unless

@@ -13,7 +13,9 @@ module _ (ws : List ℕ) where
   walk-from k zero zero e h = refl
   walk-from k zero (suc turns) e h = rw (le-ltb k (pairCount ws) (omega arith))
   walk-from k (suc left) zero e h = absurd (omega arith)
-  walk-from k (suc left) (suc turns) e h = rw (lt-ltb k (pairCount ws) (omega arith)) (ap (λ ps. pairAt ws k ∷ ps) (walk-from (k + 1) left turns (omega arith) (omega arith)))
+  walk-from k (suc left) (suc turns) e h =
+      rw (lt-ltb k (pairCount ws) (omega arith))
+      (ap (λ ps. pairAt ws k ∷ ps) (walk-from (k + 1) left turns (omega arith) (omega arith)))
 
   pub walk-all : (turns : ℕ) → pairCount ws ≤ turns → walk ws 0 turns ≡ pairs ws
   walk-all turns h = walk-from 0 (pairCount ws) turns (omega arith) h

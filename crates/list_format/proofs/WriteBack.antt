@@ -19,7 +19,8 @@ use Rattle.refusals.specs.declared.Fault.the-variants.{None}
 use Rattle.refusals.proofs.CheckLaws.{both-pass, pass-both, passed, passes, each-passes}
 use Rattle.list_format.specs.Lists.{word, registers, pairCount, pairPlace, pairOf, pairAt, listChecks, ValuesIn}
 use Rattle.list_format.specs.Read.{fourOf, numbersOf, readChecks, reading}
-use Rattle.list_format.specs.Write.{givenCount, givenPair, FitsWords, threeOf, openList, withEnd, wordsOf, countChecks, givenChecks, writeChecks, GivenIn}
+use Rattle.list_format.specs.Write.{givenCount, givenPair, FitsWords, threeOf, openList, withEnd, wordsOf, GivenIn}
+use Rattle.list_format.specs.Write.{countChecks, givenChecks, writeChecks}
 use Rattle.list_format.proofs.ListLaws.{HeadIn, KindsIn, EndIn, ListIn, same, values-in, list-pass}
 
 pub given-in : (n : ℕ) (xs : List ℕ) (room : ℕ) → firstFault (writeChecks n xs room) ≡ None → GivenIn n xs
@@ -132,7 +133,9 @@ module _ (n : ℕ) (xs : List ℕ) (g : GivenIn n xs) where
 
   -- its numbers are those given
   pub numbers-back : numbersOf (wordsOf n xs) ≡ xs
-  numbers-back = ap (run (λ k. fourOf (pairAt (wordsOf n xs) k))) (head-is .pairs) ∙ run-is (λ k. fourOf (pairAt (wordsOf n xs) k)) 4 (λ k. refl) xs (givenCount xs) each (g .size)
+  numbers-back =
+      ap (run (λ k. fourOf (pairAt (wordsOf n xs) k))) (head-is .pairs)
+      ∙ run-is (λ k. fourOf (pairAt (wordsOf n xs) k)) 4 (λ k. refl) xs (givenCount xs) each (g .size)
     where
       each : (k : ℕ) → k < givenCount xs → fourOf (pairAt (wordsOf n xs) k) ≡ take 4 (drop (4 * k) xs)
       each k h =

@@ -35,22 +35,26 @@ module _ (ws : List ℕ) (n : ℕ) where
   pub pass-none : {C : List ℕ → List ℕ → Type 0} (S : List ℕ) → C (drop (6 * n) S) (take n S) → Pass ws n C S S Settled
   pass-none S h = record { size = refl; rest = refl; step = step-none (take n S) h }
 
-  pub pass-with : {C D : List ℕ → List ℕ → Type 0} {S S′ : List ℕ} {o : Change} → ((F M : List ℕ) → C F M → D F M) → Pass ws n C S S′ o → Pass ws n D S S′ o
+  pub pass-with : {C D : List ℕ → List ℕ → Type 0} {S S′ : List ℕ} {o : Change} → ((F M : List ℕ) → C F M → D F M)
+      → Pass ws n C S S′ o → Pass ws n D S S′ o
   pass-with d h = record { size = h .size; rest = h .rest; step = step-with (d _ _) (h .step) }
 
   -- a later pass, with the flags of the first
   later : {D : List ℕ → List ℕ → Type 0} (S : List ℕ) {S′ S″ : List ℕ} {o : Change} → drop n S′ ≡ drop n S → Pass ws n D S′ S″ o
       → MarkStep (Working ws (drop (6 * n) S)) (D (drop (6 * n) S)) (take n S′) (take n S″) o
-  later {D} S {S′} {S″} {o} e h = subst (λ (F : List ℕ). MarkStep (Working ws F) (D F) (take n S′) (take n S″) o) (drop-further n (6 * n) S S′ (omega arith) e) (h .step)
+  later {D} S {S′} {S″} {o} e h =
+      subst (λ (F : List ℕ). MarkStep (Working ws F) (D F) (take n S′) (take n S″) o)
+      (drop-further n (6 * n) S S′ (omega arith) e) (h .step)
 
-  pub pass-then : {C D : List ℕ → List ℕ → Type 0} {S S′ S″ : List ℕ} {o o′ o″ : Change} → o″ ≡ joined o o′ → Pass ws n C S S′ o → Pass ws n D S′ S″ o′
-      → Pass ws n (λ F M. C F M × D F M) S S″ o″
+  pub pass-then : {C D : List ℕ → List ℕ → Type 0} {S S′ S″ : List ℕ} {o o′ o″ : Change} → o″ ≡ joined o o′ → Pass ws n C S S′ o
+      → Pass ws n D S′ S″ o′ → Pass ws n (λ F M. C F M × D F M) S S″ o″
   pass-then {S = S} e h k = rw e (record { size = k .size ∙ h .size; rest = k .rest ∙ h .rest; step = step-then (h .step) (later S (h .rest) k) })
 
   -- ---- one pair, in the marks lent
 
-  pub pair-pass : (S : List ℕ) {S′ M fs : List ℕ} {p : Pair} (k : ℕ) {o : Change} → n ≤ length S → k < pairCount ws → p ≡ pairAt ws k → fs ≡ fourAt S (6 * n + 4 * k)
-      → S′ ≡ M ++ drop n S → Settles p fs (take n S) M o → Pass ws n (PairClosed ws k) S S′ o
+  pub pair-pass : (S : List ℕ) {S′ M fs : List ℕ} {p : Pair} (k : ℕ) {o : Change} → n ≤ length S → k < pairCount ws
+      → p ≡ pairAt ws k → fs ≡ fourAt S (6 * n + 4 * k) → S′ ≡ M ++ drop n S
+      → Settles p fs (take n S) M o → Pass ws n (PairClosed ws k) S S′ o
   pair-pass S {S′} {M} {fs} {p} k {o} room l ep ef es h = record {
     size = ap length es ∙ rw (length-append, length-drop) (omega (arith, size));
     rest = ap (drop n) es ∙ drop-at M (drop n S) n size;
@@ -79,11 +83,13 @@ module _ (ws : List ℕ) (n : ℕ) where
   pub sweep-start : (down : Bool) (S : List ℕ) → Pass ws n (MarksClosedTo ws down 0) S S Settled
   sweep-start down S = pass-none S (λ j l. absurd (omega arith))
 
-  pub sweep-turn : (down : Bool) (i : ℕ) {at : ℕ} {S S′ S″ : List ℕ} {o o′ o″ : Change} → at ≡ placeOf (pairCount ws) down i → o″ ≡ joined o o′
-      → Pass ws n (MarksClosedTo ws down i) S S′ o → Pass ws n (PairClosed ws at) S′ S″ o′ → Pass ws n (MarksClosedTo ws down (i + 1)) S S″ o″
+  pub sweep-turn : (down : Bool) (i : ℕ) {at : ℕ} {S S′ S″ : List ℕ} {o o′ o″ : Change} → at ≡ placeOf (pairCount ws) down i
+      → o″ ≡ joined o o′ → Pass ws n (MarksClosedTo ws down i) S S′ o → Pass ws n (PairClosed ws at) S′ S″ o′
+      → Pass ws n (MarksClosedTo ws down (i + 1)) S S″ o″
   sweep-turn down i ea e h k = pass-with (λ F M x. below-more _ i (x .0) (rw ea at (x .1))) (pass-then e h k)
 
-  pub sweep-end : (down : Bool) {S S′ : List ℕ} {o : Change} → Pass ws n (MarksClosedTo ws down (pairCount ws)) S S′ o → Pass ws n (AllClosed ws) S S′ o
+  pub sweep-end : (down : Bool) {S S′ : List ℕ} {o : Change} → Pass ws n (MarksClosedTo ws down (pairCount ws)) S S′ o
+      → Pass ws n (AllClosed ws) S S′ o
   sweep-end down = pass-with (λ F M x. each-place (λ k. PairClosed ws k F M) (pairCount ws) down x)
 
   -- ---- until nothing changes
@@ -104,7 +110,8 @@ module _ (ws : List ℕ) (n : ℕ) where
     pub carried-clash : o ≡ Clash → Propagated ws n S S″ false
     carried-clash e = record { carried = carried-turn; said = λ d w a. told-as Clash e d w (c .kept .sound d w a) }
 
-  pub carried-settled : {S S′ S″ : List ℕ} {o : Change} (c : Carried ws n S S′) (h : Pass ws n (AllClosed ws) S′ S″ o) → o ≡ Settled → Propagated ws n S S″ true
+  pub carried-settled : {S S′ S″ : List ℕ} {o : Change} (c : Carried ws n S S′) (h : Pass ws n (AllClosed ws) S′ S″ o)
+      → o ≡ Settled → Propagated ws n S S″ true
   carried-settled c h e = record {
     carried = carried-turn c h;
     said = let t = told-as c h Settled e in rw (t .0) (t .1);

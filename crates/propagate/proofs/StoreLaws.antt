@@ -84,7 +84,8 @@ timings-run s n M h = ext-getD 0 _ _ (size ∙ sym sizes) each
     sizes : length (timings s (splitOf (take n M))) ≡ n
     sizes = length-map (splitOf (take n M)) (timeOf s) ∙ length-splitOf (take n M) ∙ length-take-le n M h
 
-    each : (i : ℕ) → i < length (run (λ k. timeOf s (isLate (getD M k 0)) ∷ []) n) → getD (run (λ k. timeOf s (isLate (getD M k 0)) ∷ []) n) i 0 ≡ getD (timings s (splitOf (take n M))) i 0
+    each : (i : ℕ) → i < length (run (λ k. timeOf s (isLate (getD M k 0)) ∷ []) n)
+        → getD (run (λ k. timeOf s (isLate (getD M k 0)) ∷ []) n) i 0 ≡ getD (timings s (splitOf (take n M))) i 0
     each i l =
         let below : i < n = omega (arith, size) in
         let e : 1 * i + 0 ≡ i = omega arith in

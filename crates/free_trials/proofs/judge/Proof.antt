@@ -1,4 +1,5 @@
--- `judge` tells the period itself only of an admissible schedule.
+-- `judge`: what it tells is a bound of the period, by a cycle, by what is known, or as 0 is one;
+-- the period itself is told only of an admissible schedule.
 use mathlib.Core.Path.{sym, _∙_}
 use native.Mathlib.Omega.{arith}
 use Rattle.free_laws.proofs.Bound.{bound-low}

@@ -1,4 +1,5 @@
--- `record_broken`: the first q flags are stored.
+-- `record_broken`: the flags of all pairs, four to a pair.
+-- Invariant `Filling`: the first q flags are stored. What falls: end - q.
 use mathlib.Core.List.{[], _∷_}
 use mathlib.Core.Path.{_≡_, refl}
 use Prim.Native.Nat.{_*_, _/_, _%_, _-_, _<_}

@@ -1,4 +1,5 @@
--- `sweep`: the first i pairs force nothing more.
+-- `sweep`: one pass over all pairs, up or down the list.
+-- Invariant: a `Pass` for which the pairs at the first i places force no more (`MarksClosedTo`). What falls: m - i.
 use denote.Ref.{now}
 use mathlib.Core.Path.{_≡_}
 use Prim.Native.Nat.{_≤_, _-_}
