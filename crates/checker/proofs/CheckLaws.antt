@@ -85,6 +85,8 @@ module _ {ws : List ℕ} {t : ℕ} {s : List ℕ} where
 
 -- ---- the schedule is admissible exactly if no pair breaks a rule
 
+-- `firstBroken` is the least place whose pair fails the test of both rules (`first-is`). Where it is the count of pairs, each pair
+-- passes the test, and so meets both rules. Where it is less, that pair fails, as no pair of an admissible schedule does.
 module _ (ws : List ℕ) (t : ℕ) (s : List ℕ) where
   first-is : IsLeast (λ k. not (metAt ws t s k)) 0 (pairCount ws) (firstBroken ws t s)
   unfolding firstBroken
@@ -155,6 +157,10 @@ module _ (ws : List ℕ) (t : ℕ) (s : List ℕ) where
   reply-none (Refused number place) e = cc
 
   -- ---- the call
+
+  -- Each way to end settles what the run of checks finds, and with it the outcome; the reply follows by computation. A refusal is
+  -- not `Admissible`, and its checks find something: it promises no more. Where the pairs decide, nothing is found exactly in the
+  -- admissible schedules, as above.
 
   -- the call is refused
   refuses : {number place : ℕ} → firstFault (checkChecks ws t s) ≡ At number place → checking ws t s ≡ refused number place
@@ -233,7 +239,7 @@ unfolding someAbove
 none-above [] h = refl
 none-above (x ∷ s) h = rw (le-ltb maxTiming x (h 0)) (none-above s (λ r. h (suc r)))
 
--- what is admissible, in range and within the limit passes
+-- what is admissible, in range and within the limit passes: no check refuses it, and no pair of it is found
 pub admissible-passes : (ws : List ℕ) (t : ℕ) (s : List ℕ) → IsAccepted ws → 1 ≤ t → t ≤ maxPeriod → length s ≡ registers ws
     → ((r : ℕ) → time s r ≤ maxTiming) → admissible t (pairs ws) s ≡ true → Passes ws t s
 unfolding checking

@@ -1,4 +1,6 @@
--- A trail, step by step.
+-- A trail, step by step: each step back adds one rule of the list to the sums, which bound the times at its two ends (`Adds`).
+-- A step adds at most a longest period to what is asked for and to what is left, so n steps keep both in 32 bits. A rule that
+-- does not lead into the register where the trail stands ends it: its steps are then n, and nothing is added.
 use Prim.Native.Nat.{ℕ, _+_, _<_}
 use mathlib.Core.List.{List}
 use mathlib.Core.Path.{_≡_, refl}

@@ -1,4 +1,7 @@
 -- The rules at each place of a list, and a round over them, up or down the list.
+-- A turn relaxes one pair: its two registers rise as far as its rules ask, and past no times that meet the rules of the list
+-- (`turned`). What a pair has attained stays attained as times rise further (`reached-more`). After a turn for each place, up or
+-- down, every rule has what it asked of the times at the start: that is a round (`part-end`).
 use Prim.Native.Nat.{ℕ, _+_, _-_, _≤_, _<_, zero-le}
 use mathlib.Core.Bool.{Bool, true, false}
 use mathlib.Core.List.{List}

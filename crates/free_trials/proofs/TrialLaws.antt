@@ -1,4 +1,6 @@
 -- Trials: what rounds from all zero keep, and what they end in.
+-- Rounds in any order keep x no later than any times that meet the rules (`Under`), so an admissible x is the least schedule.
+-- As many rounds over all pairs as there are registers come to the least schedule, where there is one (`Rounds`, of free_laws).
 use Prim.Native.Nat.{ℕ, _+_, _-_, _≤_, _<_}
 use mathlib.Core.Bool.{true, false, false≢true}
 use mathlib.Core.List.{List, _++_, append-nil}
@@ -108,7 +110,8 @@ module _ {ws : List ℕ} {count t : ℕ} {x₀ : List ℕ} (p : Trial ws count t
       pub trying-passed : admissible t (pairs ws) x ≡ true → Tried ws t x t
       trying-passed e = under-told (trying-under s) (record { bound = p .bound; shows = λ q. e }) (le-refl t)
 
-      -- not admissible: no schedule at t
+      -- not admissible: no schedule at t. Times that met the rules would give a least schedule, which is within the limit of a
+      -- timing (`least-capped`); so many rounds would have come to it (`rounds-end`), and it is admissible
       pub trying-failed : admissible t (pairs ws) x ≡ false → Tried ws t x (t + 1)
       trying-failed e = record { onward = omega arith; bound = bound-next (p .bound) none; shows = λ q. absurd (omega arith) }
         where

@@ -165,6 +165,8 @@ module _ (ws : List ℕ) where
 
   -- ---- an accepted list, fact by fact
 
+  -- A run of checks finds nothing exactly where each of its parts finds nothing: the head, pair by pair, the end. A check that
+  -- passes is the fact that it tests. So these facts and an empty finding follow from each other (`list-in`, `list-pass`).
   pub record ListIn : Type 0 where
     pub head : HeadIn ws
     pub kinds : (k : ℕ) → k < pairCount ws → KindsIn (word ws (pairPlace k)) (word ws (pairPlace k + 1)) (word ws (pairPlace k + 2))

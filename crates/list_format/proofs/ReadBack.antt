@@ -1,4 +1,8 @@
 -- What was read from an accepted list, written again, is that list.
+-- The numbers of pair k stand at places 4k to 4k + 3, so the writer gets the pairs of the list (`given-is`). It makes each word
+-- from its kind and its fields, which in an accepted list are those of the word that stood there (`three-is`, `open-is`); the
+-- checksum over equal words is the same, and so is the end word (`words-back`). It refuses nothing, for its checks ask no more
+-- of the numbers than those of the list (`checks-back`).
 use Prim.Native.Nat.{ℕ, zero, suc, _+_, _*_, _/_, _%_, _<_, _≤_}
 use mathlib.Core.List.{List, [], _∷_, _++_}
 use mathlib.Core.Path.{_≡_, refl, sym, _∙_, ap}

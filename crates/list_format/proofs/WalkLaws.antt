@@ -1,4 +1,5 @@
 -- A reader meets every pair of its list once and in order, and then the end, however often it is asked.
+-- By recursion on the pairs left: each turn meets one and goes on to the next; past the last, the reader stays at the end.
 use Prim.Native.Nat.{ℕ, zero, suc, _+_, _≤_}
 use mathlib.Core.List.{List, _∷_}
 use mathlib.Core.Path.{_≡_, refl, ap}

@@ -1,4 +1,7 @@
 -- What was written, read again, is the same count of registers and the same numbers.
+-- Numbers that the writer does not refuse fit their fields, so each word is taken apart into the kind and the fields that it was
+-- made from (`head-is`, `word-is`, `pair-is`, `end-is`). Hence the reader accepts the list (`list-back`), and finds the numbers
+-- that were given, pair by pair (`numbers-back`).
 use Prim.Native.Nat.{ℕ, zero, suc, _+_, _*_, _/_, _%_, _^_, _<_, _≤_}
 use mathlib.Core.List.{List, [], _∷_, _++_}
 use mathlib.Core.Path.{_≡_, refl, sym, _∙_, ap}

@@ -1,4 +1,7 @@
 -- The buffers part by part, and the ways that a call can end, each with the whole promise.
+-- A refusal changes nothing. An allowed call stores the free timings in the first n places and the split's in the next n, which
+-- is one store of both (`over-twice`), and clears the scratch; so each part read back is the schedule that was meant (`front`,
+-- `behind`). No rival beats them (`plan-unbeaten`), and being admissible and in range both pass a check (`admissible-passes`).
 use Prim.Native.Nat.{ℕ, _+_, _-_, _*_, _≤_}
 use mathlib.Core.List.{List, [], _∷_, _++_, append-assoc}
 use mathlib.Core.Path.{_≡_, refl, ap, sym, _∙_}

@@ -1,4 +1,6 @@
 -- From a blank scratch to the first split.
+-- Blank marks agree with every split, so what the passes say holds of every split that works. Where no pair forces more, the
+-- marks give a split that works and is late only where each such split is: the first (`first-found`). A clash: none (`first-none`).
 use mathlib.Core.Path.{_≡_, sym, _∙_, ap}
 use mathlib.Core.Bool.{Bool, true, false}
 use mathlib.Core.List.{List, _++_}

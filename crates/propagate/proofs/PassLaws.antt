@@ -1,4 +1,8 @@
 -- Laws of passes over the pairs: one after the other, pair by pair in either direction, and until nothing changes.
+-- A pass changes marks only, so the flags stay what they were. It loses no split that works and agreed with the marks, and its
+-- answer says: settled, nothing changed and its pairs force no more; changed, fewer registers are without a mark; clash, no split
+-- that works agrees. Two passes make one with the joined answer (`pass-then`), so a sweep is built up pair by pair, and sweeps
+-- that change something come to an end.
 use mathlib.Core.Path.{_≡_, refl, _∙_, ap, subst}
 use mathlib.Core.Bool.{Bool, true, false}
 use mathlib.Core.List.{List, _++_}
@@ -52,6 +56,8 @@ module _ (ws : List ℕ) (n : ℕ) where
 
   -- ---- one pair, in the marks lent
 
+  -- The four flags read are those recorded for pair k (`four-drop`), and a split that works meets its rules (`works-at`): so what
+  -- settling the pair promises for one pair's splits holds for the splits that work.
   pub pair-pass : (S : List ℕ) {S′ M fs : List ℕ} {p : Pair} (k : ℕ) {o : Change} → n ≤ length S → k < pairCount ws
       → p ≡ pairAt ws k → fs ≡ fourAt S (6 * n + 4 * k) → S′ ≡ M ++ drop n S
       → Settles p fs (take n S) M o → Pass ws n (PairClosed ws k) S S′ o

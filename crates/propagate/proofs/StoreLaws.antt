@@ -1,4 +1,5 @@
 -- Laws of the scratch of a trial: what is recorded, and the part that is lent to the recording.
+-- Flag q is that of row q % 4 of pair q / 4, so the four flags of pair k stand at places 4k to 4k + 3 (`recorded`).
 use mathlib.Core.Path.{_≡_, refl, sym, ap, _∙_}
 use mathlib.Core.List.{List, [], _∷_, _++_, append-nil}
 use Prim.Native.Nat.{ℕ, zero, suc, _+_, _-_, _*_, _/_, _%_, _≤_, _<_}

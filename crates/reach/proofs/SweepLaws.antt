@@ -1,4 +1,7 @@
 -- The pairs of a list one by one: what the sweeps, the period and the split's timings keep from turn to turn.
+-- A step raises both ends of a pair to what it forces, so that reaches stay reaches. It tells that nothing rose, and then the pair
+-- is closed, or that there is less left to rise. Steps make one step (`step-then`), so a sweep is built up pair by pair; one
+-- where nothing rose leaves all pairs closed at the same reaches, and the others come to an end.
 use mathlib.Core.Path.{_≡_, refl, ap, sym, _∙_, subst}
 use mathlib.Core.Bool.{Bool, true, false, _||_, true≢false}
 use mathlib.Core.List.{List, [], _∷_, _++_, append-nil}
@@ -113,7 +116,7 @@ sweep-less {top} {ps} {D} {W} {W′} {o} h e = go o e (h .told)
 
 -- ---- the period
 
--- the longest that the first k pairs ask for, with those from place k on, gives the period
+-- the longest that the first k pairs ask for, with those from place k on, gives the period: a maximum, taken over pair by pair
 pub record Asked (ws W : List ℕ) (most k : ℕ) : Type 0 where
   pub place : k ≤ pairCount ws
   pub pos : 1 ≤ most
@@ -141,6 +144,8 @@ module _ {ws W : List ℕ} {most k : ℕ} (a : Asked ws W most k) where
 
 -- ---- from equal reaches to the period and its split
 
+-- At a period of `floor` or less no times meet the rules, so no split works: `floor` is a reach of every register. Reaches that no
+-- pair raises further give the two-timing period and its split (ReachTwo, of plan_laws).
 module _ {ws : List ℕ} {count top : ℕ} (floor : ℕ) (W : List ℕ) (list : AcceptedList ws (length W) count)
     (e : top ≡ common (pairs ws)) (b : Bound (pairs ws) (floor + 1)) where
   pub reaching-start : {W′ : List ℕ} → W′ ≡ replicate (length W) floor ++ drop (length W) W → Reaching ws count top W′

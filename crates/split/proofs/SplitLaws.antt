@@ -1,4 +1,7 @@
 -- The ways that a call can end, each with the whole promise.
+-- A refusal changes nothing. An allowed call comes to what the trial decided, the first split or none, and its outcome is known:
+-- reply, buffer and scratch follow by computation. That a split handed out works, and that no split works where none is, is what
+-- the first split means (FoundLaws, of split_laws); being admissible and in range, its timings pass a check.
 use Prim.Native.Nat.{ℕ, _≤_}
 use mathlib.Core.Bool.{Bool, true, false}
 use mathlib.Core.List.{List, _++_}
