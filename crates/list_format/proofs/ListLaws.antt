@@ -9,7 +9,7 @@ use borrow.Author.Tests.{ltb-false, le-ltb, leb-false, lt-leb, eqb-true, eqb-fal
 use Rattle.timing.specs.declared.Pair.{Pair}
 use Rattle.timing.specs.Rules.{Each, InRange}
 use Rattle.timing.specs.Limits.{maxRegisters, maxPairs, maxDelay, maxPeriod}
-use Rattle.words.specs.Word.{kindOf, payloadOf, headSpare, pairSpare, checksum}
+use Rattle.words.specs.Word.{kindHead, kindPair, kindLeast, kindGreatest, kindEnd, kindOf, payloadOf, headSpare, pairSpare, checksum}
 use Rattle.refusals.specs.Checks.{Check, firstFault, eachCheck}
 use Rattle.refusals.specs.Reply.{numbers, Outcome, replyOf, answered}
 use Rattle.refusals.specs.declared.Fault.{Fault}
@@ -76,14 +76,14 @@ module _ (ws : List ℕ) where
 
 -- the kinds of the three words of a pair
 pub record KindsIn (p least greatest : ℕ) : Type 0 where
-  pub kind : kindOf p ≡ 2
+  pub kind : kindOf p ≡ kindPair
   pub spare : pairSpare p ≡ 0
-  pub leastKind : kindOf least ≡ 3
-  pub greatestKind : kindOf greatest ≡ 4
+  pub leastKind : kindOf least ≡ kindLeast
+  pub greatestKind : kindOf greatest ≡ kindGreatest
 
 -- the head and the count of words
 pub record HeadIn (ws : List ℕ) : Type 0 where
-  pub kind : kindOf (word ws 0) ≡ 1
+  pub kind : kindOf (word ws 0) ≡ kindHead
   pub spare : headSpare (word ws 0) ≡ 0
   pub some : 0 < registers ws
   pub most : registers ws ≤ maxRegisters
@@ -92,7 +92,7 @@ pub record HeadIn (ws : List ℕ) : Type 0 where
 
 -- the end word
 pub record EndIn (ws : List ℕ) (at : ℕ) : Type 0 where
-  pub kind : kindOf (word ws at) ≡ 7
+  pub kind : kindOf (word ws at) ≡ kindEnd
   pub payload : payloadOf (word ws at) ≡ checksum (take at ws)
 
 pub same : (a b : ℕ) → differ a b ≡ Bool.false → a ≡ b

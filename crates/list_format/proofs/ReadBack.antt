@@ -13,7 +13,7 @@ use lib.Seq.{take-suc, take-all, take-add, drop-drop}
 use borrow.Author.Tests.{le-ltb, eq-eqb, ne-eqb}
 use Rattle.timing.specs.declared.Pair.{Pair}
 use Rattle.timing.specs.Limits.{maxPairs}
-use Rattle.words.specs.Word.{wordOf, headWord, pairWord, kindOf, payloadOf, checksum, endWord}
+use Rattle.words.specs.Word.{kindLeast, kindGreatest, kindEnd, wordOf, headWord, pairWord, kindOf, payloadOf, checksum, endWord}
 use Rattle.words.proofs.WordLaws.{word-of-parts, word-of-head, word-of-pair}
 use Rattle.buffers.specs.Run.{run}
 use Rattle.buffers.proofs.RunLaws.{run-length, run-at, run-front, stretch, take-stretch}
@@ -62,8 +62,8 @@ module _ (ws : List ℕ) (l : ListIn ws) where
         take-stretch 3 ws (pairPlace k) (omega (arith, l .head .size)),
         third,
         word-of-pair (word ws (pairPlace k)) (kinds .kind) (kinds .spare),
-        of-kind 3 (word ws (pairPlace k + 1)) (kinds .leastKind),
-        of-kind 4 (word ws (pairPlace k + 2)) (kinds .greatestKind),
+        of-kind kindLeast (word ws (pairPlace k + 1)) (kinds .leastKind),
+        of-kind kindGreatest (word ws (pairPlace k + 2)) (kinds .greatestKind),
       )
 
   -- the head and the pairs
@@ -85,7 +85,7 @@ module _ (ws : List ℕ) (l : ListIn ws) where
   words-back =
       let at : ℕ = pairPlace (pairCount ws) in
       ap withEnd (ap (openList (registers ws) (numbersOf ws)) (count-is ws) ∙ open-is)
-      ∙ rw (← l .end .payload, of-kind 7 (word ws at) (l .end .kind))
+      ∙ rw (← l .end .payload, of-kind kindEnd (word ws at) (l .end .kind))
       (sym (take-suc ws at 0 (omega (arith, l .head .size))) ∙ take-all (suc at) ws (omega (arith, l .head .size)))
 
   -- the writer refuses none of it
