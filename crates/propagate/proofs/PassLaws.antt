@@ -14,6 +14,7 @@ use borrow.Author.Count.{below-more}
 use Rattle.buffers.proofs.FillLaws.{drop-further}
 use Rattle.timing.specs.declared.Pair.{Pair}
 use Rattle.timing.specs.Rules.{Each}
+use Rattle.timing.specs.Limits.{perPair}
 use Rattle.list_format.specs.Lists.{pairCount, pairAt, pairsFrom, pairs, placeOf}
 use Rattle.list_format.proofs.ListLaws.{pair-holds, each-place}
 use Rattle.split_laws.specs.declared.Change.{Change}
@@ -22,7 +23,7 @@ use Rattle.split_laws.specs.Split.{works}
 use Rattle.split_laws.specs.Marks.{unset, MarkTold, MarkStep, joined, Flagged, keeps, Settles}
 use Rattle.split_laws.proofs.MarkLaws.{kept-none, kept-then, step-none, step-then, step-with, step-as}
 use Rattle.split_laws.proofs.ClosureLaws.{works-each}
-use Rattle.propagate.specs.Store.{fourAt, Recorded}
+use Rattle.propagate.specs.Store.{flagsFrom, fourAt, Recorded}
 use Rattle.propagate.specs.Passes.{Working, Pass, PairClosed, AllClosed, Carried, Propagated}
 use Rattle.propagate.proofs.StoreLaws.{four-drop}
 
@@ -36,7 +37,7 @@ MarksClosedTo ws down i F M = (j : ℕ) → j < i → PairClosed ws (placeOf (pa
 module _ (ws : List ℕ) (n : ℕ) where
   -- ---- passes
 
-  pub pass-none : {C : List ℕ → List ℕ → Type 0} (S : List ℕ) → C (drop (6 * n) S) (take n S) → Pass ws n C S S Settled
+  pub pass-none : {C : List ℕ → List ℕ → Type 0} (S : List ℕ) → C (drop (flagsFrom n) S) (take n S) → Pass ws n C S S Settled
   pass-none S h = record { size = refl; rest = refl; step = step-none (take n S) h }
 
   pub pass-with : {C D : List ℕ → List ℕ → Type 0} {S S′ : List ℕ} {o : Change} → ((F M : List ℕ) → C F M → D F M)
@@ -45,10 +46,10 @@ module _ (ws : List ℕ) (n : ℕ) where
 
   -- a later pass, with the flags of the first
   later : {D : List ℕ → List ℕ → Type 0} (S : List ℕ) {S′ S″ : List ℕ} {o : Change} → drop n S′ ≡ drop n S → Pass ws n D S′ S″ o
-      → MarkStep (Working ws (drop (6 * n) S)) (D (drop (6 * n) S)) (take n S′) (take n S″) o
+      → MarkStep (Working ws (drop (flagsFrom n) S)) (D (drop (flagsFrom n) S)) (take n S′) (take n S″) o
   later {D} S {S′} {S″} {o} e h =
       subst (λ (F : List ℕ). MarkStep (Working ws F) (D F) (take n S′) (take n S″) o)
-      (drop-further n (6 * n) S S′ (omega arith) e) (h .step)
+      (drop-further n (flagsFrom n) S S′ (omega arith) e) (h .step)
 
   pub pass-then : {C D : List ℕ → List ℕ → Type 0} {S S′ S″ : List ℕ} {o o′ o″ : Change} → o″ ≡ joined o o′ → Pass ws n C S S′ o
       → Pass ws n D S′ S″ o′ → Pass ws n (λ F M. C F M × D F M) S S″ o″
@@ -59,7 +60,7 @@ module _ (ws : List ℕ) (n : ℕ) where
   -- The four flags read are those recorded for pair k (`four-drop`), and a split that works meets its rules (`works-at`): so what
   -- settling the pair promises for one pair's splits holds for the splits that work.
   pub pair-pass : (S : List ℕ) {S′ M fs : List ℕ} {p : Pair} (k : ℕ) {o : Change} → n ≤ length S → k < pairCount ws
-      → p ≡ pairAt ws k → fs ≡ fourAt S (6 * n + 4 * k) → S′ ≡ M ++ drop n S
+      → p ≡ pairAt ws k → fs ≡ fourAt S (flagsFrom n + perPair * k) → S′ ≡ M ++ drop n S
       → Settles p fs (take n S) M o → Pass ws n (PairClosed ws k) S S′ o
   pair-pass S {S′} {M} {fs} {p} k {o} room l ep ef es h = record {
     size = ap length es ∙ rw (length-append, length-drop) (omega (arith, size));
@@ -81,8 +82,8 @@ module _ (ws : List ℕ) (n : ℕ) where
       front : take n S′ ≡ M
       front = ap (take n) es ∙ take-at M (drop n S) n size
 
-      flags : (t s : ℕ) → Recorded t s ws (drop (6 * n) S) → Flagged t s p fs
-      flags t s r = rw (ep, ef ∙ four-drop (6 * n) k S) (r .each k l)
+      flags : (t s : ℕ) → Recorded t s ws (drop (flagsFrom n) S) → Flagged t s p fs
+      flags t s r = rw (ep, ef ∙ four-drop (flagsFrom n) k S) (r .each k l)
 
   -- ---- all pairs, in either direction
 
@@ -107,7 +108,7 @@ module _ (ws : List ℕ) (n : ℕ) where
     pub carried-turn : Carried ws n S S″
     carried-turn = record { size = h .size ∙ c .size; rest = h .rest ∙ c .rest; kept = kept-then (c .kept) (later S (c .rest) h .kept) }
 
-    told-as : (x : Change) → o ≡ x → MarkTold x (Working ws (drop (6 * n) S)) (C (drop (6 * n) S)) (take n S′) (take n S″)
+    told-as : (x : Change) → o ≡ x → MarkTold x (Working ws (drop (flagsFrom n) S)) (C (drop (flagsFrom n) S)) (take n S′) (take n S″)
     told-as x e = rw e at (later S (c .rest) h .told)
 
     pub carried-fewer : o ≡ Changed → unset (take n S″) < unset (take n S′)
