@@ -58,7 +58,7 @@ module _ (ws : List ℕ) (n : ℕ) where
   -- ---- one pair, in the marks lent
 
   -- The four flags read are those recorded for pair k (`four-drop`), and a split that works meets its rules (`works-at`): so what
-  -- settling the pair promises for one pair's splits holds for the splits that work.
+  -- is promised of the splits that meet its rules holds of those that work.
   pub pair-pass : (S : List ℕ) {S′ M fs : List ℕ} {p : Pair} (k : ℕ) {o : Change} → n ≤ length S → k < pairCount ws
       → p ≡ pairAt ws k → fs ≡ fourAt S (flagsFrom n + perPair * k) → S′ ≡ M ++ drop n S
       → Settles p fs (take n S) M o → Pass ws n (PairClosed ws k) S S′ o

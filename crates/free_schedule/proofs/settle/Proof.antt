@@ -1,4 +1,4 @@
--- `settle`: refusal 2 for too few places (`too-small`), or both periods, with a schedule that no rival beats and that passes (`settled`).
+-- `settle`: refusal 2 for too few places; else both periods and the free schedule, unbeaten and passing a check (`settled`).
 use denote.Ref.{now}
 use Rattle.free_schedule.proofs.CallLaws.{too-small, settled}
 use borrow.Author.Needs.{needs}

@@ -1,4 +1,4 @@
--- `quick`: the period told is one that a trial may tell, or 0.
+-- `quick`: what it tells, if not below the period, is what a trial may tell; 0 leaves the period undecided.
 -- Invariant `Under`: x is no later than any times that meet the rules, in whatever order it was raised. What falls: most - done.
 use Prim.Native.Nat.{_-_}
 use mathlib.Core.Path.{sym, _∙_}

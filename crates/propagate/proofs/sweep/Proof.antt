@@ -1,4 +1,4 @@
--- `sweep`: one pass over all pairs, up or down the list.
+-- `sweep`: a pass over all pairs, up or down the list; settled where no pair forces more.
 -- Invariant: a `Pass` for which the pairs at the first i places force no more (`MarksClosedTo`). What falls: m - i.
 use denote.Ref.{now}
 use mathlib.Core.Path.{_≡_}
