@@ -27,7 +27,8 @@ use Rattle.list_format.specs.Lists.{registers, pairCount, pairAt, pairs, listCh
 use Rattle.list_format.specs.declared.Verdict.the-variants as Verdict
 use Rattle.list_format.specs.declared.Verdict.the-variants.{Accepted}
 use Rattle.list_format.proofs.ListLaws.{refused→fault, accepted→none, none→accepted, same, no-difference, each-pair, pair-holds}
-use Rattle.checker.specs.Check.{setupAt, holdAt, metAt, firstBroken, brokenRule, found, someAbove, timingChecks, checkChecks, checking, ruleNumber, checkReply, CheckedAs, Passes}
+use Rattle.checker.specs.Check.{setupAt, holdAt, metAt, firstBroken, brokenRule, found, ruleNumber}
+use Rattle.checker.specs.Check.{someAbove, timingChecks, checkChecks, checking, checkReply, CheckedAs, Passes}
 use Rattle.checker.specs.declared.Rule.{Rule}
 use Rattle.checker.specs.declared.Rule.the-variants.{Setup, Hold}
 use Rattle.checker.specs.declared.Checking.{Checking}
@@ -35,7 +36,8 @@ use Rattle.checker.specs.declared.Checking.the-variants.{Admissible, Bro
 
 -- ---- one pair
 
-module _ (t : ℕ) (s : List ℕ) {ws : List ℕ} {k : ℕ} {p : Pair} (is : IsPair ws k p) {a : Bool} (setup : a ≡ setupMet p t (time s (p .launch)) (time s (p .capture))) where
+module _ (t : ℕ) (s : List ℕ) {ws : List ℕ} {k : ℕ} {p : Pair} (is : IsPair ws k p) {a : Bool}
+    (setup : a ≡ setupMet p t (time s (p .launch)) (time s (p .capture))) where
   setup-same : a ≡ setupAt ws t s k
   unfolding setupAt
   setup-same = setup ∙ ap (λ (q : Pair). setupMet q t (time s (q .launch)) (time s (q .capture))) (is .same)
@@ -83,6 +85,8 @@ module _ {ws : List ℕ} {t : ℕ} {s : List ℕ} where
 
 -- ---- the schedule is admissible exactly if no pair breaks a rule
 
+-- `firstBroken` is the least place whose pair fails the test of both rules (`first-is`). Where it is the count of pairs, each pair
+-- passes the test, and so meets both rules. Where it is less, that pair fails, as no pair of an admissible schedule does.
 module _ (ws : List ℕ) (t : ℕ) (s : List ℕ) where
   first-is : IsLeast (λ k. not (metAt ws t s k)) 0 (pairCount ws) (firstBroken ws t s)
   unfolding firstBroken
@@ -109,7 +113,8 @@ module _ (ws : List ℕ) (t : ℕ) (s : List ℕ) where
   pub none-test : eqb (firstBroken ws t s) (pairCount ws) ≡ admissible t (pairs ws) s
   none-test = go (eq-or-lt-of-le (first-is .upto))
     where
-      go : (firstBroken ws t s ≡ pairCount ws) ⊎ (firstBroken ws t s < pairCount ws) → eqb (firstBroken ws t s) (pairCount ws) ≡ admissible t (pairs ws) s
+      go : (firstBroken ws t s ≡ pairCount ws) ⊎ (firstBroken ws t s < pairCount ws)
+          → eqb (firstBroken ws t s) (pairCount ws) ≡ admissible t (pairs ws) s
       go (inl e) = eq-eqb _ _ e ∙ sym (none-admissible (omega arith))
       go (inr l) = ne-eqb (firstBroken ws t s) (pairCount ws) (λ e. omega arith) ∙ sym (some-broken l)
 
@@ -152,6 +157,10 @@ module _ (ws : List ℕ) (t : ℕ) (s : List ℕ) where
   reply-none (Refused number place) e = cc
 
   -- ---- the call
+
+  -- Each way to end settles what the run of checks finds, and with it the outcome; the reply follows by computation. A refusal is
+  -- not `Admissible`, and its checks find something: it promises no more. Where the pairs decide, nothing is found exactly in the
+  -- admissible schedules, as above.
 
   -- the call is refused
   refuses : {number place : ℕ} → firstFault (checkChecks ws t s) ≡ At number place → checking ws t s ≡ refused number place
@@ -230,7 +239,7 @@ unfolding someAbove
 none-above [] h = refl
 none-above (x ∷ s) h = rw (le-ltb maxTiming x (h 0)) (none-above s (λ r. h (suc r)))
 
--- what is admissible, in range and within the limit passes
+-- what is admissible, in range and within the limit passes: no check refuses it, and no pair of it is found
 pub admissible-passes : (ws : List ℕ) (t : ℕ) (s : List ℕ) → IsAccepted ws → 1 ≤ t → t ≤ maxPeriod → length s ≡ registers ws
     → ((r : ℕ) → time s r ≤ maxTiming) → admissible t (pairs ws) s ≡ true → Passes ws t s
 unfolding checking

@@ -19,7 +19,7 @@ use Rattle.free_climb.specs.Climbed.{Alone, Climbed, Ascended}
 
 -- ---- what pairs alone ask
 
--- of the first k pairs
+-- of the first k pairs; what one pair alone asks bounds the period of the list, for its rules are among the list's (`rules-at`)
 pub record Most (ws : List ℕ) (most k : ℕ) : Type 0 where
   pub place : k ≤ pairCount ws
   pub pos : 1 ≤ most
@@ -67,6 +67,10 @@ module _ {ws : List ℕ} {most k : ℕ} (l : Largest ws most k) where
 
 -- ---- the climb
 
+-- Below every period that is tried there is no schedule. A trial tells that period with its least schedule, and then it is the
+-- free period (`climbing-end`); or a longer one, below which there is no schedule either, and that is tried next
+-- (`climbing-tries`). At the common period all timings may be equal, so no such period is longer: the climb ends.
+
 -- after a trial of t
 pub record Climbing (ws : List ℕ) (t : ℕ) (x : List ℕ) (next : ℕ) : Type 0 where
   pub size : length x ≡ registers ws
@@ -74,7 +78,8 @@ pub record Climbing (ws : List ℕ) (t : ℕ) (x : List ℕ) (next : ℕ) : Type
   pub bound : Bound (pairs ws) t
   pub sought : Sought ws t x next
 
-pub climbing-after : {ws : List ℕ} {count t next : ℕ} {x y : List ℕ} → Trial ws count t x → length y ≡ length x → Sought ws t y next → Climbing ws t y next
+pub climbing-after : {ws : List ℕ} {count t next : ℕ} {x y : List ℕ} → Trial ws count t x → length y ≡ length x
+    → Sought ws t y next → Climbing ws t y next
 climbing-after p e s = record { size = e ∙ p .list .registersAre; pos = p .pos; bound = p .bound; sought = s }
 
 module _ {ws : List ℕ} {n count : ℕ} (r : AcceptedList ws n count) where

@@ -1,4 +1,6 @@
--- A trail, step by step.
+-- A trail, step by step: each step back adds one rule of the list to the sums, which bound the times at its two ends (`Adds`).
+-- A step adds at most a longest period to what is asked for and to what is left, so n steps keep both in 32 bits. A rule that
+-- does not lead into the register where the trail stands ends it: its steps are then n, and nothing is added.
 use Prim.Native.Nat.{ℕ, _+_, _<_}
 use mathlib.Core.List.{List}
 use mathlib.Core.Path.{_≡_, refl}
@@ -35,7 +37,14 @@ module _ {ws : List ℕ} {count n : ℕ} {w : Trail} (r : AcceptedList ws n coun
 
   module _ {k : ℕ} {p : Pair} (is : IsPair ws k p) (h : k < count) where
     pub back-setup : p .capture ≡ w .at
-        → Further ws n w (record { start = w .start; at = p .launch; steps = w .steps + 1; gain = w .gain + p .greatest; allowance = w .allowance; setups = w .setups + 1 })
+        → Further ws n w (record {
+          start = w .start;
+          at = p .launch;
+          steps = w .steps + 1;
+          gain = w .gain + p .greatest;
+          allowance = w .allowance;
+          setups = w .setups + 1;
+        })
     back-setup e =
         record {
           start = refl;
@@ -51,7 +60,14 @@ module _ {ws : List ℕ} {count n : ℕ} {w : Trail} (r : AcceptedList ws n coun
         }
 
     pub back-hold : p .launch ≡ w .at
-        → Further ws n w (record { start = w .start; at = p .capture; steps = w .steps + 1; gain = w .gain; allowance = w .allowance + p .least; setups = w .setups })
+        → Further ws n w (record {
+          start = w .start;
+          at = p .capture;
+          steps = w .steps + 1;
+          gain = w .gain;
+          allowance = w .allowance + p .least;
+          setups = w .setups;
+        })
     back-hold e =
         record {
           start = refl;

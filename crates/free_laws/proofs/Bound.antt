@@ -37,7 +37,8 @@ bound-next {ps} {b} h none = record { under = λ u f p m. go u f m (eq-or-lt-of-
     go u f m (inr l) = omega arith
 
 -- a bound at which there is a least schedule is the free period
-module _ (n : ℕ) (ps : List Pair) (w : Each (InRange n) ps) {t : ℕ} {x : List ℕ} (h : 1 ≤ t) (b : Bound ps t) (least : Least (constraints t ps) n x) where
+module _ (n : ℕ) (ps : List Pair) (w : Each (InRange n) ps) {t : ℕ} {x : List ℕ} (h : 1 ≤ t) (b : Bound ps t)
+    (least : Least (constraints t ps) n x) where
   pub bound-period : t ≡ freePeriod n ps
   bound-period =
       omega (

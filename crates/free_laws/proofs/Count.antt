@@ -58,7 +58,8 @@ count-mono (suc n) g h m =
     omega (arith, bit-mono (g n) (h n) (m n (omega arith)), count-mono n g h (λ r k. m r (omega arith)))
 
 -- one register more
-pub count-more : (n : ℕ) (g h : ℕ → Bool) → ((r : ℕ) → r < n → g r ≡ true → h r ≡ true) → (q : ℕ) → q < n → g q ≡ false → h q ≡ true → count n g < count n h
+pub count-more : (n : ℕ) (g h : ℕ → Bool) → ((r : ℕ) → r < n → g r ≡ true → h r ≡ true) → (q : ℕ) → q < n → g q ≡ false
+    → h q ≡ true → count n g < count n h
 unfolding count
 count-more zero g h m q k e f = absurd (not-suc-le-zero k)
 count-more (suc n) g h m q k e f = go (below-suc k) (λ l. count-more n g h (λ r j. m r (omega arith)) q l e f)

@@ -151,7 +151,8 @@ module _ (rs : List Constraint) (n : ℕ) (l : List ℕ) (w : Each (Within n) rs
       none : (r : Constraint) → Within n r → Within n r → Crosses l (λ q. false) r → (q : ℕ) × (q < n) × (time l q ≡ 0)
       none r h k c = absurd (false≢true (c .0))
 
-      go : ((q : ℕ) × (q < n) × (ltb 0 (time l q) ≡ false)) ⊎ ((r : ℕ) → r < n → ltb 0 (time l r) ≡ true) → (q : ℕ) × (q < n) × (time l q ≡ 0)
+      go : ((q : ℕ) × (q < n) × (ltb 0 (time l q) ≡ false)) ⊎ ((r : ℕ) → r < n → ltb 0 (time l r) ≡ true)
+          → (q : ℕ) × (q < n) × (time l q ≡ 0)
       go (inl v) = (v .0, v .1, omega (arith, ltb-false 0 (time l (v .0)) (v .2)))
       go (inr all) =
           pick-some none rs w w

@@ -37,7 +37,8 @@ set-below (a ∷ x) (suc i) v (suc j) f h k = set-below x i v j (λ r. f (suc r)
 -- ---- one rule
 
 -- what is attained stays so where the destination is raised further, and counted from earlier times
-pub attained-more : (c : ℕ) (x x′ y y′ : List ℕ) (r : Constraint) → Below x (time x′) → Below y (time y′) → Attained c x′ y r → Attained c x y′ r
+pub attained-more : (c : ℕ) (x x′ y y′ : List ℕ) (r : Constraint) → Below x (time x′) → Below y (time y′)
+    → Attained c x′ y r → Attained c x y′ r
 attained-more c x x′ y y′ r a b h = omega (arith, a (r .src), b (r .dst))
 
 -- y is x with the destination raised, no further than the rule asks

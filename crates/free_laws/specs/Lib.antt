@@ -1,3 +1,4 @@
+-- The definitions, which the contracts of other crates cite.
 pub mod Free
 pub mod Constraint
 pub mod Raise

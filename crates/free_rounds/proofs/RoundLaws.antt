@@ -1,4 +1,7 @@
 -- The rules at each place of a list, and a round over them, up or down the list.
+-- A turn relaxes one pair: its two registers rise as far as its rules ask, and past no times that meet the rules of the list
+-- (`turned`). What a pair has attained stays attained as times rise further (`reached-more`). After a turn for each place, up or
+-- down, every rule has what it asked of the times at the start: that is a round (`part-end`).
 use Prim.Native.Nat.{ℕ, _+_, _-_, _≤_, _<_, zero-le}
 use mathlib.Core.Bool.{Bool, true, false}
 use mathlib.Core.List.{List}
@@ -35,7 +38,8 @@ rules-at {ws} {k} is h t f m =
 abbrev PairAttained : ℕ → List ℕ → List ℕ → Pair → Type 0
 PairAttained t x y p = Attained maxTiming x y (setup t p) × Attained maxTiming x y (hold p)
 
-reached-more : (t : ℕ) (x x′ y y′ : List ℕ) (p : Pair) → Below x (time x′) → Below y (time y′) → PairAttained t x′ y p → PairAttained t x y′ p
+reached-more : (t : ℕ) (x x′ y y′ : List ℕ) (p : Pair) → Below x (time x′) → Below y (time y′)
+    → PairAttained t x′ y p → PairAttained t x y′ p
 reached-more t x x′ y y′ p a b h =
     (attained-more maxTiming x x′ y y′ (setup t p) a b (h .0), attained-more maxTiming x x′ y y′ (hold p) a b (h .1))
 
@@ -51,7 +55,11 @@ module _ {ws : List ℕ} {count t : ℕ} {x₀ : List ℕ} (r : Raising ws count
 
     module _ {x : List ℕ} (s : Risen maxTiming (constraints t (pairs ws)) x₀ x) {p : Pair} (is : IsPair ws k p) where
       inside : InRange (length x) p
-      inside = record { launch = omega (arith, is .values .launch, s .size, r .list .registersAre); capture = omega (arith, is .values .capture, s .size, r .list .registersAre) }
+      inside =
+          record {
+            launch = omega (arith, is .values .launch, s .size, r .list .registersAre);
+            capture = omega (arith, is .values .capture, s .size, r .list .registersAre);
+          }
 
       pub turn-ready : Relaxable x p t k
       turn-ready =
@@ -80,7 +88,8 @@ module _ {ws : List ℕ} {count t : ℕ} {x₀ : List ℕ} (r : Raising ws count
 pub risen-then : {c : ℕ} {rs : List Constraint} {x y z : List ℕ} → Risen c rs x y → Risen c rs y z → Risen c rs x z
 risen-then a b = record { size = b .size ∙ a .size; capped = b .capped; low = λ f m l. b .low f m (a .low f m l) }
 
-pub raising-kept : {ws : List ℕ} {count t : ℕ} {rs : List Constraint} {x y : List ℕ} → Raising ws count t x → Risen maxTiming rs x y → Raising ws count t y
+pub raising-kept : {ws : List ℕ} {count t : ℕ} {rs : List Constraint} {x y : List ℕ} → Raising ws count t x
+    → Risen maxTiming rs x y → Raising ws count t y
 raising-kept r s =
     record {
       list = record { accepted = r .list .accepted; registersAre = s .size ∙ r .list .registersAre; pairsAre = r .list .pairsAre };
@@ -102,8 +111,8 @@ module _ {ws : List ℕ} {count t : ℕ} {x₀ : List ℕ} (r : Raising ws count
   part-start = record { bound = zero-le; risen = risen-start r; up = λ j. le-refl _; attained = λ j h. absurd (omega arith) }
 
   module _ {x : List ℕ} {i : ℕ} (s : Part ws t down x₀ x i) where
-    pub part-turn : {k : ℕ} {p : Pair} {y : List ℕ} → (h : k < count) → k ≡ placeOf count down i → i < count → IsPair ws k p → y ≡ relaxTo maxTiming t p x
-        → Part ws t down x₀ y (i + 1)
+    pub part-turn : {k : ℕ} {p : Pair} {y : List ℕ} → (h : k < count) → k ≡ placeOf count down i → i < count → IsPair ws k p
+        → y ≡ relaxTo maxTiming t p x → Part ws t down x₀ y (i + 1)
     part-turn {k} {p} h at l is e =
         let z : List ℕ = relaxTo maxTiming t p x in
         let o = turned r h (s .risen) is in
@@ -125,7 +134,8 @@ module _ {ws : List ℕ} {count t : ℕ} {x₀ : List ℕ} (r : Raising ws count
             up = s .up;
             low = s .risen .low;
             attained = each-rule (Attained maxTiming x₀ x) t (λ p b. b) (pairs ws)
-                (each-pair ws (PairAttained t x₀ x) (each-place (λ k. PairAttained t x₀ x (pairAt ws k)) (pairCount ws) down (λ j l. s .attained j (omega (arith, r .list .pairsAre)))));
+                (each-pair ws (PairAttained t x₀ x)
+                (each-place (λ k. PairAttained t x₀ x (pairAt ws k)) (pairCount ws) down (λ j l. s .attained j (omega (arith, r .list .pairsAre)))));
           };
           capped = s .risen .capped;
         }

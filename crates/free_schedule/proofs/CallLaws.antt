@@ -1,4 +1,6 @@
 -- The places that are lent and come back filled, and the answer case by case.
+-- The free schedule passes a check at the free period: it is admissible, that period is no longer than the common one, and no
+-- timing is later than a longest period for each register but one (`free-capped`).
 use Prim.Native.Nat.{ℕ, _≤_, _<_}
 use mathlib.Core.List.{List, [], _∷_, _++_}
 use mathlib.Core.Path.{_≡_, ap, sym, _∙_}

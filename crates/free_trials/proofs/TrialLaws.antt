@@ -1,4 +1,6 @@
 -- Trials: what rounds from all zero keep, and what they end in.
+-- Rounds in any order keep x no later than any times that meet the rules (`Under`), so an admissible x is the least schedule.
+-- As many rounds over all pairs as there are registers come to the least schedule, where there is one (`Rounds`, of free_laws).
 use Prim.Native.Nat.{ℕ, _+_, _-_, _≤_, _<_}
 use mathlib.Core.Bool.{true, false, false≢true}
 use mathlib.Core.List.{List, _++_, append-nil}
@@ -90,7 +92,10 @@ module _ {ws : List ℕ} {count t : ℕ} {x₀ : List ℕ} (p : Trial ws count t
   pub trying-start : {x : List ℕ} → x ≡ zeros (length x₀) → Trying ws t x 0
   trying-start e =
       rw (e, p .list .registersAre)
-      (record { rounds = rounds-start (registers ws) (constraints t (pairs ws)) (within (registers ws) t (pairs ws) inside) maxTiming; capped = zeros-below (registers ws) (λ r. maxTiming) })
+      (record {
+        rounds = rounds-start (registers ws) (constraints t (pairs ws)) (within (registers ws) t (pairs ws) inside) maxTiming;
+        capped = zeros-below (registers ws) (λ r. maxTiming);
+      })
 
   module _ {x : List ℕ} {k : ℕ} (s : Trying ws t x k) where
     pub trying-turn : {y : List ℕ} → RoundTo maxTiming (constraints t (pairs ws)) x y → Trying ws t y (k + 1)
@@ -105,7 +110,8 @@ module _ {ws : List ℕ} {count t : ℕ} {x₀ : List ℕ} (p : Trial ws count t
       pub trying-passed : admissible t (pairs ws) x ≡ true → Tried ws t x t
       trying-passed e = under-told (trying-under s) (record { bound = p .bound; shows = λ q. e }) (le-refl t)
 
-      -- not admissible: no schedule at t
+      -- not admissible: no schedule at t. Times that met the rules would give a least schedule, which is within the limit of a
+      -- timing (`least-capped`); so many rounds would have come to it (`rounds-end`), and it is admissible
       pub trying-failed : admissible t (pairs ws) x ≡ false → Tried ws t x (t + 1)
       trying-failed e = record { onward = omega arith; bound = bound-next (p .bound) none; shows = λ q. absurd (omega arith) }
         where
@@ -115,7 +121,9 @@ module _ {ws : List ℕ} {count t : ℕ} {x₀ : List ℕ} (p : Trial ws count t
               let n = registers ws in
               let w = within n t (pairs ws) inside in
               let l = least-exists rs n w g m in
-              let steps : Each (λ q. q .greatest ≤ t + maxPeriod) (pairs ws) = each-map (λ q h. omega arith) (pairs ws) (pairs-within ws (p .list .accepted)) in
-              let cap = least-capped n t (pairs ws) inside maxTiming maxPeriod steps (omega (arith, few-registers ws (p .list), p .list .registersAre)) (l .1) in
+              let limits = pairs-within ws (p .list .accepted) in
+              let steps : Each (λ q. q .greatest ≤ t + maxPeriod) (pairs ws) = each-map (λ q h. omega arith) (pairs ws) limits in
+              let few = few-registers ws (p .list) in
+              let cap = least-capped n t (pairs ws) inside maxTiming maxPeriod steps (omega (arith, few, p .list .registersAre)) (l .1) in
               let same = rounds-end n rs w (s .rounds) (omega (arith, s .rounds .size)) (l .0) cap (l .1) in
               false≢true (sym e ∙ ap (admissible t (pairs ws)) same ∙ meets→admissible t (pairs ws) (l .0) (l .1 .meets))

@@ -1,3 +1,4 @@
+-- The laws, which other crates may cite too.
 pub mod ListLaws
 pub mod WalkLaws
 pub mod ReadBack

@@ -9,14 +9,16 @@ use borrow.Author.Tests.{ltb-false, le-ltb, leb-false, lt-leb, eqb-true, eqb-fal
 use Rattle.timing.specs.declared.Pair.{Pair}
 use Rattle.timing.specs.Rules.{Each, InRange}
 use Rattle.timing.specs.Limits.{maxRegisters, maxPairs, maxDelay, maxPeriod}
-use Rattle.words.specs.Word.{kindOf, payloadOf, headSpare, pairSpare, checksum}
+use Rattle.words.specs.Word.{kindHead, kindPair, kindLeast, kindGreatest, kindEnd, kindOf, payloadOf, headSpare, pairSpare, checksum}
 use Rattle.refusals.specs.Checks.{Check, firstFault, eachCheck}
 use Rattle.refusals.specs.Reply.{numbers, Outcome, replyOf, answered}
 use Rattle.refusals.specs.declared.Fault.{Fault}
 use Rattle.refusals.specs.declared.Fault.the-variants.{None, At}
 use Rattle.refusals.proofs.CheckLaws.{stop-first, pass-first, both-pass, pass-both, passed, passes, each-passes, all-pass}
 use Rattle.refusals.proofs.ReplyLaws.{numbers-none}
-use Rattle.list_format.specs.Lists.{word, registers, pairCount, pairPlace, pairAt, pairsFrom, pairs, placeOf, differ, headChecks, kindChecks, valueChecks, pairChecks, endChecks, bodyChecks, listChecks, judged, verdict, ValuesIn, IsAccepted, AcceptedList, PairIn, IsPair}
+use Rattle.list_format.specs.Lists.{word, registers, pairCount, pairPlace, pairAt, pairsFrom, pairs, placeOf}
+use Rattle.list_format.specs.Lists.{differ, headChecks, kindChecks, valueChecks, pairChecks, endChecks, bodyChecks, listChecks}
+use Rattle.list_format.specs.Lists.{judged, verdict, ValuesIn, IsAccepted, AcceptedList, PairIn, IsPair}
 use Rattle.list_format.specs.declared.Verdict.{Verdict}
 use Rattle.list_format.specs.declared.Verdict.the-variants.{Accepted, Refused}
 
@@ -36,7 +38,8 @@ module _ (ws : List ℕ) where
   head-refuses e = fault→refused (stop-first (headChecks (word ws 0) (length ws)) (bodyChecks ws (registers ws) (pairCount ws)) e)
 
   module _ (head : firstFault (headChecks (word ws 0) (length ws)) ≡ None) where
-    pub body-refuses : {number place : ℕ} → firstFault (bodyChecks ws (registers ws) (pairCount ws)) ≡ At number place → verdict ws ≡ Refused number place
+    pub body-refuses : {number place : ℕ} → firstFault (bodyChecks ws (registers ws) (pairCount ws)) ≡ At number place
+        → verdict ws ≡ Refused number place
     body-refuses e = fault→refused (pass-first (headChecks (word ws 0) (length ws)) (bodyChecks ws (registers ws) (pairCount ws)) head ∙ e)
 
     pub body-accepts : firstFault (bodyChecks ws (registers ws) (pairCount ws)) ≡ None → IsAccepted ws
@@ -73,14 +76,14 @@ module _ (ws : List ℕ) where
 
 -- the kinds of the three words of a pair
 pub record KindsIn (p least greatest : ℕ) : Type 0 where
-  pub kind : kindOf p ≡ 2
+  pub kind : kindOf p ≡ kindPair
   pub spare : pairSpare p ≡ 0
-  pub leastKind : kindOf least ≡ 3
-  pub greatestKind : kindOf greatest ≡ 4
+  pub leastKind : kindOf least ≡ kindLeast
+  pub greatestKind : kindOf greatest ≡ kindGreatest
 
 -- the head and the count of words
 pub record HeadIn (ws : List ℕ) : Type 0 where
-  pub kind : kindOf (word ws 0) ≡ 1
+  pub kind : kindOf (word ws 0) ≡ kindHead
   pub spare : headSpare (word ws 0) ≡ 0
   pub some : 0 < registers ws
   pub most : registers ws ≤ maxRegisters
@@ -89,7 +92,7 @@ pub record HeadIn (ws : List ℕ) : Type 0 where
 
 -- the end word
 pub record EndIn (ws : List ℕ) (at : ℕ) : Type 0 where
-  pub kind : kindOf (word ws at) ≡ 7
+  pub kind : kindOf (word ws at) ≡ kindEnd
   pub payload : payloadOf (word ws at) ≡ checksum (take at ws)
 
 pub same : (a b : ℕ) → differ a b ≡ Bool.false → a ≡ b
@@ -144,7 +147,10 @@ module _ (ws : List ℕ) where
         le-ltb (length ws) 2 (omega (arith, h .size)),
         (
           no-difference _ _ (h .kind),
-          (no-difference _ _ (h .spare), (ne-eqb (registers ws) 0 (λ e. omega (arith, h .some)), (le-ltb _ _ (h .most), (le-ltb _ _ (h .few), (no-difference _ _ (h .size), tt))))),
+          (
+            no-difference _ _ (h .spare),
+            (ne-eqb (registers ws) 0 (λ e. omega (arith, h .some)), (le-ltb _ _ (h .most), (le-ltb _ _ (h .few), (no-difference _ _ (h .size), tt)))),
+          ),
         ),
       )
 
@@ -159,6 +165,8 @@ module _ (ws : List ℕ) where
 
   -- ---- an accepted list, fact by fact
 
+  -- A run of checks finds nothing exactly where each of its parts finds nothing: the head, pair by pair, the end. A check that
+  -- passes is the fact that it tests. So these facts and an empty finding follow from each other (`list-in`, `list-pass`).
   pub record ListIn : Type 0 where
     pub head : HeadIn ws
     pub kinds : (k : ℕ) → k < pairCount ws → KindsIn (word ws (pairPlace k)) (word ws (pairPlace k + 1)) (word ws (pairPlace k + 2))

@@ -1,4 +1,8 @@
 -- What was read from an accepted list, written again, is that list.
+-- The numbers of pair k stand at places 4k to 4k + 3, so the writer gets the pairs of the list (`given-is`). It makes each word
+-- from its kind and its fields, which in an accepted list are those of the word that stood there (`three-is`, `open-is`); the
+-- checksum over equal words is the same, and so is the end word (`words-back`). It refuses nothing, for its checks ask no more
+-- of the numbers than those of the list (`checks-back`).
 use Prim.Native.Nat.{ℕ, zero, suc, _+_, _*_, _/_, _%_, _<_, _≤_}
 use mathlib.Core.List.{List, [], _∷_, _++_}
 use mathlib.Core.Path.{_≡_, refl, sym, _∙_, ap}
@@ -9,7 +13,7 @@ use lib.Seq.{take-suc, take-all, take-add, drop-drop}
 use borrow.Author.Tests.{le-ltb, eq-eqb, ne-eqb}
 use Rattle.timing.specs.declared.Pair.{Pair}
 use Rattle.timing.specs.Limits.{maxPairs}
-use Rattle.words.specs.Word.{wordOf, headWord, pairWord, kindOf, payloadOf, checksum, endWord}
+use Rattle.words.specs.Word.{kindLeast, kindGreatest, kindEnd, wordOf, headWord, pairWord, kindOf, payloadOf, checksum, endWord}
 use Rattle.words.proofs.WordLaws.{word-of-parts, word-of-head, word-of-pair}
 use Rattle.buffers.specs.Run.{run}
 use Rattle.buffers.proofs.RunLaws.{run-length, run-at, run-front, stretch, take-stretch}
@@ -58,8 +62,8 @@ module _ (ws : List ℕ) (l : ListIn ws) where
         take-stretch 3 ws (pairPlace k) (omega (arith, l .head .size)),
         third,
         word-of-pair (word ws (pairPlace k)) (kinds .kind) (kinds .spare),
-        of-kind 3 (word ws (pairPlace k + 1)) (kinds .leastKind),
-        of-kind 4 (word ws (pairPlace k + 2)) (kinds .greatestKind),
+        of-kind kindLeast (word ws (pairPlace k + 1)) (kinds .leastKind),
+        of-kind kindGreatest (word ws (pairPlace k + 2)) (kinds .greatestKind),
       )
 
   -- the head and the pairs
@@ -81,7 +85,7 @@ module _ (ws : List ℕ) (l : ListIn ws) where
   words-back =
       let at : ℕ = pairPlace (pairCount ws) in
       ap withEnd (ap (openList (registers ws) (numbersOf ws)) (count-is ws) ∙ open-is)
-      ∙ rw (← l .end .payload, of-kind 7 (word ws at) (l .end .kind))
+      ∙ rw (← l .end .payload, of-kind kindEnd (word ws at) (l .end .kind))
       (sym (take-suc ws at 0 (omega (arith, l .head .size))) ∙ take-all (suc at) ws (omega (arith, l .head .size)))
 
   -- the writer refuses none of it
@@ -106,7 +110,9 @@ module _ (ws : List ℕ) (l : ListIn ws) where
       each k b =
           let z : 0 + k ≡ k = omega arith in
           let below : k < pairCount ws = omega (arith, count-is ws) in
-          rw z (ap (λ p. firstFault (valueChecks (registers ws) p k k k)) (given-is k below) ∙ values-pass (registers ws) (pairAt ws k) k k k (l .values k below))
+          rw z
+          (ap (λ p. firstFault (valueChecks (registers ws) p k k k)) (given-is k below)
+          ∙ values-pass (registers ws) (pairAt ws k) k k k (l .values k below))
 
   pub read-back : (room : ℕ) → length ws ≤ room → writing (registers ws) (numbersOf ws) room ≡ done (length ws ∷ []) ws
   unfolding writing unless

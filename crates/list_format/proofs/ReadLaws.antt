@@ -60,7 +60,8 @@ module _ (ws was : List ℕ) where
         let a = accepted→none ws v in
         record { reply = rw (done-is h, a .list .registersAre, a .list .pairsAre); stored = rw (done-is h) s; back = again }
       where
-        again : (k l : ℕ) → Read n m ≡ Read k l → (room : ℕ) → length ws ≤ room → writing k (take (4 * l) now) room ≡ done (length ws ∷ []) ws
+        again : (k l : ℕ) → Read n m ≡ Read k l → (room : ℕ) → length ws ≤ room
+            → writing k (take (4 * l) now) room ≡ done (length ws ∷ []) ws
         again k l e room r =
             let a = accepted→none ws v in
             let k-is : k ≡ registers ws = cc in

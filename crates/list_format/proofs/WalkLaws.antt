@@ -1,4 +1,5 @@
 -- A reader meets every pair of its list once and in order, and then the end, however often it is asked.
+-- By recursion on the pairs left: each turn meets one and goes on to the next; past the last, the reader stays at the end.
 use Prim.Native.Nat.{ℕ, zero, suc, _+_, _≤_}
 use mathlib.Core.List.{List, _∷_}
 use mathlib.Core.Path.{_≡_, refl, ap}
@@ -13,7 +14,9 @@ module _ (ws : List ℕ) where
   walk-from k zero zero e h = refl
   walk-from k zero (suc turns) e h = rw (le-ltb k (pairCount ws) (omega arith))
   walk-from k (suc left) zero e h = absurd (omega arith)
-  walk-from k (suc left) (suc turns) e h = rw (lt-ltb k (pairCount ws) (omega arith)) (ap (λ ps. pairAt ws k ∷ ps) (walk-from (k + 1) left turns (omega arith) (omega arith)))
+  walk-from k (suc left) (suc turns) e h =
+      rw (lt-ltb k (pairCount ws) (omega arith))
+      (ap (λ ps. pairAt ws k ∷ ps) (walk-from (k + 1) left turns (omega arith) (omega arith)))
 
   pub walk-all : (turns : ℕ) → pairCount ws ≤ turns → walk ws 0 turns ≡ pairs ws
   walk-all turns h = walk-from 0 (pairCount ws) turns (omega arith) h

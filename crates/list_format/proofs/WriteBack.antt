@@ -1,4 +1,7 @@
 -- What was written, read again, is the same count of registers and the same numbers.
+-- Numbers that the writer does not refuse fit their fields, so each word is taken apart into the kind and the fields that it was
+-- made from (`head-is`, `word-is`, `pair-is`, `end-is`). Hence the reader accepts the list (`list-back`), and finds the numbers
+-- that were given, pair by pair (`numbers-back`).
 use Prim.Native.Nat.{ℕ, zero, suc, _+_, _*_, _/_, _%_, _^_, _<_, _≤_}
 use mathlib.Core.List.{List, [], _∷_, _++_}
 use mathlib.Core.Path.{_≡_, refl, sym, _∙_, ap}
@@ -9,7 +12,8 @@ use lib.Seq.{take-at, getD-at}
 use borrow.Author.Tests.{le-ltb, ltb-false, eqb-false}
 use Rattle.timing.specs.declared.Pair.{Pair}
 use Rattle.timing.specs.Limits.{maxRegisters, maxPairs, maxDelay}
-use Rattle.words.specs.Word.{kindOf, payloadOf, headWord, pairWord, leastWord, greatestWord, endWord, checksum}
+use Rattle.words.specs.Word.{payloadBits, kindLeast, kindGreatest, kindEnd, kindOf, payloadOf}
+use Rattle.words.specs.Word.{headWord, pairWord, leastWord, greatestWord, endWord, checksum}
 use Rattle.words.proofs.WordLaws.{HeadIs, head-of-word, PairWordIs, pair-of-word, kind-of-word, payload-of-word}
 use Rattle.buffers.specs.Run.{run}
 use Rattle.buffers.proofs.RunLaws.{run-length, run-at, run-is, stretch, take-stretch}
@@ -19,7 +23,8 @@ use Rattle.refusals.specs.declared.Fault.the-variants.{None}
 use Rattle.refusals.proofs.CheckLaws.{both-pass, pass-both, passed, passes, each-passes}
 use Rattle.list_format.specs.Lists.{word, registers, pairCount, pairPlace, pairOf, pairAt, listChecks, ValuesIn}
 use Rattle.list_format.specs.Read.{fourOf, numbersOf, readChecks, reading}
-use Rattle.list_format.specs.Write.{givenCount, givenPair, FitsWords, threeOf, openList, withEnd, wordsOf, countChecks, givenChecks, writeChecks, GivenIn}
+use Rattle.list_format.specs.Write.{givenCount, givenPair, FitsWords, threeOf, openList, withEnd, wordsOf, GivenIn}
+use Rattle.list_format.specs.Write.{countChecks, givenChecks, writeChecks}
 use Rattle.list_format.proofs.ListLaws.{HeadIn, KindsIn, EndIn, ListIn, same, values-in, list-pass}
 
 pub given-in : (n : ℕ) (xs : List ℕ) (room : ℕ) → firstFault (writeChecks n xs room) ≡ None → GivenIn n xs
@@ -83,8 +88,8 @@ module _ (n : ℕ) (xs : List ℕ) (g : GivenIn n xs) where
           three-at k 2 h (omega arith),
           word-is .launched,
           word-is .captured,
-          payload-of-word 3 (givenPair xs k .least) (given-fits .least),
-          payload-of-word 4 (givenPair xs k .greatest) (given-fits .greatest),
+          payload-of-word kindLeast (givenPair xs k .least) (given-fits .least),
+          payload-of-word kindGreatest (givenPair xs k .greatest) (given-fits .greatest),
         )
 
     kinds-are : KindsIn (word (wordsOf n xs) (pairPlace k)) (word (wordsOf n xs) (pairPlace k + 1)) (word (wordsOf n xs) (pairPlace k + 2))
@@ -92,8 +97,8 @@ module _ (n : ℕ) (xs : List ℕ) (g : GivenIn n xs) where
         record {
           kind = ap kindOf first-is ∙ word-is .kind;
           spare = rw first-is (word-is .spare);
-          leastKind = ap kindOf (three-at k 1 h (omega arith)) ∙ kind-of-word 3 (givenPair xs k .least) (given-fits .least);
-          greatestKind = ap kindOf (three-at k 2 h (omega arith)) ∙ kind-of-word 4 (givenPair xs k .greatest) (given-fits .greatest);
+          leastKind = ap kindOf (three-at k 1 h (omega arith)) ∙ kind-of-word kindLeast (givenPair xs k .least) (given-fits .least);
+          greatestKind = ap kindOf (three-at k 2 h (omega arith)) ∙ kind-of-word kindGreatest (givenPair xs k .greatest) (given-fits .greatest);
         }
 
   -- the end word
@@ -103,14 +108,14 @@ module _ (n : ℕ) (xs : List ℕ) (g : GivenIn n xs) where
   last-is : word (wordsOf n xs) (pairPlace (givenCount xs)) ≡ endWord (checksum (openList n xs (givenCount xs)))
   last-is = getD-at (openList n xs (givenCount xs)) _ [] 0 (pairPlace (givenCount xs)) open-length
 
-  checksum-fits : checksum (openList n xs (givenCount xs)) < 2 ^ 29
+  checksum-fits : checksum (openList n xs (givenCount xs)) < 2 ^ payloadBits
   checksum-fits = omega arith
 
   end-is : EndIn (wordsOf n xs) (pairPlace (givenCount xs))
   end-is =
       record {
-        kind = ap kindOf last-is ∙ kind-of-word 7 _ checksum-fits;
-        payload = ap payloadOf last-is ∙ payload-of-word 7 _ checksum-fits ∙ ap checksum (sym front-is);
+        kind = ap kindOf last-is ∙ kind-of-word kindEnd _ checksum-fits;
+        payload = ap payloadOf last-is ∙ payload-of-word kindEnd _ checksum-fits ∙ ap checksum (sym front-is);
       }
 
   -- the whole list is accepted
@@ -132,7 +137,9 @@ module _ (n : ℕ) (xs : List ℕ) (g : GivenIn n xs) where
 
   -- its numbers are those given
   pub numbers-back : numbersOf (wordsOf n xs) ≡ xs
-  numbers-back = ap (run (λ k. fourOf (pairAt (wordsOf n xs) k))) (head-is .pairs) ∙ run-is (λ k. fourOf (pairAt (wordsOf n xs) k)) 4 (λ k. refl) xs (givenCount xs) each (g .size)
+  numbers-back =
+      ap (run (λ k. fourOf (pairAt (wordsOf n xs) k))) (head-is .pairs)
+      ∙ run-is (λ k. fourOf (pairAt (wordsOf n xs) k)) 4 (λ k. refl) xs (givenCount xs) each (g .size)
     where
       each : (k : ℕ) → k < givenCount xs → fourOf (pairAt (wordsOf n xs) k) ≡ take 4 (drop (4 * k) xs)
       each k h =

@@ -55,13 +55,16 @@ module _ (n : ℕ) (xs was : List ℕ) where
         omega (arith, ltb-false (length was) (pairPlace (givenCount xs) + 1) (passed _ room .0))
 
     -- the list is stored
-    pub write-done : (now : List ℕ) (count : ℕ) → count ≡ pairPlace (givenCount xs) + 1 → now ≡ over (wordsOf n xs) was → WrittenAs n xs was now (Written count)
+    pub write-done : (now : List ℕ) (count : ℕ) → count ≡ pairPlace (givenCount xs) + 1 → now ≡ over (wordsOf n xs) was
+        → WrittenAs n xs was now (Written count)
     unfolding writing replyOf bufferAfter writeReply
     write-done now count c s =
-        let d : writing n xs (length was) ≡ done ((pairPlace (givenCount xs) + 1) ∷ []) (wordsOf n xs) = answered-done (writeChecks n xs (length was)) _ none in
+        let checks = writeChecks n xs (length was) in
+        let d : writing n xs (length was) ≡ done ((pairPlace (givenCount xs) + 1) ∷ []) (wordsOf n xs) = answered-done checks _ none in
         record { reply = rw (d, c); stored = rw d s; back = again }
       where
-        again : (k : ℕ) → Written count ≡ Written k → (room : ℕ) → length xs ≤ room → reading (take k now) room ≡ done (n ∷ givenCount xs ∷ []) xs
+        again : (k : ℕ) → Written count ≡ Written k → (room : ℕ) → length xs ≤ room
+            → reading (take k now) room ≡ done (n ∷ givenCount xs ∷ []) xs
         again k e room r =
             let g = given-in n xs (length was) none in
             let size : length (wordsOf n xs) ≡ k = words-length n xs g ∙ sym c ∙ cc in

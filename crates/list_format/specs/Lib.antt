@@ -1,3 +1,4 @@
+-- The definitions, which the contracts of other crates cite.
 pub mod Lists
 pub mod Walk
 pub mod Read

@@ -9,7 +9,8 @@ use lib.ListN.{length, getD, take}
 use Rattle.timing.specs.declared.Pair.{Pair}
 use Rattle.timing.specs.Rules.{pair}
 use Rattle.timing.specs.Limits.{maxRegisters, maxPairs, maxDelay}
-use Rattle.words.specs.Word.{kindOf, payloadOf, headPairs, headRegisters, headSpare, launchOf, captureOf, pairSpare, checksum}
+use Rattle.words.specs.Word.{kindHead, kindPair, kindLeast, kindGreatest, kindEnd, kindOf, payloadOf, checksum}
+use Rattle.words.specs.Word.{headPairs, headRegisters, headSpare, launchOf, captureOf, pairSpare}
 use Rattle.refusals.specs.Checks.{Check, firstFault, eachCheck}
 use Rattle.refusals.specs.declared.Fault.{Fault}
 use Rattle.refusals.specs.declared.Fault.the-variants.{None, At}
@@ -63,7 +64,7 @@ differ a b = not (eqb a b)
 abbrev pub headChecks : ℕ → ℕ → List Check
 headChecks head len =
     (ltb len 2, 11, 0)
-    ∷ (differ (kindOf head) 1, 12, 0)
+    ∷ (differ (kindOf head) kindHead, 12, 0)
     ∷ (differ (headSpare head) 0, 12, 0)
     ∷ (eqb (headRegisters head) 0, 12, 0)
     ∷ (ltb maxRegisters (headRegisters head), 12, 0)
@@ -74,10 +75,10 @@ headChecks head len =
 -- 13: the three words of a pair, of which the first stands at `at`
 abbrev pub kindChecks : ℕ → ℕ → ℕ → ℕ → List Check
 kindChecks p least greatest at =
-    (differ (kindOf p) 2, 13, at)
+    (differ (kindOf p) kindPair, 13, at)
     ∷ (differ (pairSpare p) 0, 13, at)
-    ∷ (differ (kindOf least) 3, 13, at + 1)
-    ∷ (differ (kindOf greatest) 4, 13, at + 2)
+    ∷ (differ (kindOf least) kindLeast, 13, at + 1)
+    ∷ (differ (kindOf greatest) kindGreatest, 13, at + 2)
     ∷ []
 
 -- 14: a register not below n. 15: a delay above the limit. 16: least above greatest.
@@ -100,7 +101,7 @@ pairChecks ws n k =
 -- 13 and 17: the end word, which stands at `at`
 abbrev pub endChecks : List ℕ → ℕ → List Check
 endChecks ws at =
-    (differ (kindOf (word ws at)) 7, 13, at)
+    (differ (kindOf (word ws at)) kindEnd, 13, at)
     ∷ (differ (payloadOf (word ws at)) (checksum (take at ws)), 17, at)
     ∷ []
 

@@ -23,4 +23,5 @@ pub record WrittenAs (n : ℕ) (xs was now : List ℕ) (r : Writing) : Type 0 wh
   pub reply : writeReply r ≡ replyOf (writing n xs (length was))
   pub stored : now ≡ bufferAfter (writing n xs (length was)) was
   -- what was written, read again, gives the same count of registers and the same numbers
-  pub back : (count : ℕ) → r ≡ Written count → (room : ℕ) → length xs ≤ room → reading (take count now) room ≡ done (n ∷ givenCount xs ∷ []) xs
+  pub back : (count : ℕ) → r ≡ Written count → (room : ℕ) → length xs ≤ room
+      → reading (take count now) room ≡ done (n ∷ givenCount xs ∷ []) xs

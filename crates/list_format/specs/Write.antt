@@ -7,7 +7,7 @@ use lib.ListN.{length, getD}
 use Rattle.timing.specs.declared.Pair.{Pair}
 use Rattle.timing.specs.Rules.{pair}
 use Rattle.timing.specs.Limits.{maxRegisters, maxPairs}
-use Rattle.words.specs.Word.{headWord, pairWord, leastWord, greatestWord, endWord, checksum}
+use Rattle.words.specs.Word.{registerBits, payloadBits, headWord, pairWord, leastWord, greatestWord, endWord, checksum}
 use Rattle.buffers.specs.Run.{run}
 use Rattle.refusals.specs.Checks.{Check, eachCheck}
 use Rattle.refusals.specs.Reply.{Reply, refusal, numbers, Outcome, done, answered}
@@ -27,10 +27,10 @@ givenPair xs k = pair (getD xs (4 * k) 0) (getD xs (4 * k + 1) 0) (getD xs (4 * 
 
 -- the values of a pair fit their fields
 pub record FitsWords (p : Pair) : Type 0 where
-  pub launch : p .launch < 2 ^ 10
-  pub capture : p .capture < 2 ^ 10
-  pub least : p .least < 2 ^ 29
-  pub greatest : p .greatest < 2 ^ 29
+  pub launch : p .launch < 2 ^ registerBits
+  pub capture : p .capture < 2 ^ registerBits
+  pub least : p .least < 2 ^ payloadBits
+  pub greatest : p .greatest < 2 ^ payloadBits
 
 abbrev pub threeOf : Pair → List ℕ
 threeOf p = pairWord (p .launch) (p .capture) ∷ leastWord (p .least) ∷ greatestWord (p .greatest) ∷ []

@@ -76,7 +76,8 @@ unfolding common
 common-is P [] one h = one
 common-is P (p ∷ ps) one h = go (max-either (p .greatest) (common ps)) (common-is P ps one (h .1))
   where
-    go : (max (p .greatest) (common ps) ≡ p .greatest) ⊎ (max (p .greatest) (common ps) ≡ common ps) → P (common ps) → P (max (p .greatest) (common ps))
+    go : (max (p .greatest) (common ps) ≡ p .greatest) ⊎ (max (p .greatest) (common ps) ≡ common ps) → P (common ps)
+        → P (max (p .greatest) (common ps))
     go (inl e) rest = subst P (sym e) (h .0)
     go (inr e) rest = subst P (sym e) rest
 

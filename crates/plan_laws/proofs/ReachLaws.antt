@@ -34,9 +34,12 @@ Asks top t p true true = p .greatest ≤ t
 
 module _ (top t : ℕ) (p : Pair) (h : t ≤ top) (g : p .greatest ≤ top) where
   meets-asks : (a b : Bool) → meets t (top - t) p a b ≡ true → Asks top t p a b
-  meets-asks a b e = go a b (test→met p t (timeOf (top - t) a) (timeOf (top - t) b) e .setup) (test→met p t (timeOf (top - t) a) (timeOf (top - t) b) e .hold)
+  meets-asks a b e =
+      let m = test→met p t (timeOf (top - t) a) (timeOf (top - t) b) e in
+      go a b (m .setup) (m .hold)
     where
-      go : (a b : Bool) → timeOf (top - t) a + p .greatest ≤ timeOf (top - t) b + t → timeOf (top - t) b ≤ timeOf (top - t) a + p .least → Asks top t p a b
+      go : (a b : Bool) → timeOf (top - t) a + p .greatest ≤ timeOf (top - t) b + t
+          → timeOf (top - t) b ≤ timeOf (top - t) a + p .least → Asks top t p a b
       go false false s d = omega arith
       go false true s d = omega arith
       go true false s d = omega arith
@@ -174,7 +177,8 @@ module _ (n start top : ℕ) (ps : List Pair) (W : List ℕ) (size : length W �
       each-works t (top - t) (lateAbove t W) ps
       (each-zip keep ps (each-zip (λ p of x. (of, x)) ps (pairs-of top ps under) closed) (period-over start W ps t a))
     where
-      keep : (p : Pair) → PairOf top ps p × ReachClosed top W p → min (reachOf W (p .launch)) (p .greatest) ≤ t → keeps t (top - t) p (lateAbove t W) ≡ true
+      keep : (p : Pair) → PairOf top ps p × ReachClosed top W p → min (reachOf W (p .launch)) (p .greatest) ≤ t
+          → keeps t (top - t) p (lateAbove t W) ≡ true
       keep p x o = rw (late-at t W (p .launch), late-at t W (p .capture)) (closed-meets top ps W s p (x .0) t b (x .1) o)
 
   -- it is late only where every split that works is

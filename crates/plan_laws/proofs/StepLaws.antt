@@ -32,8 +32,8 @@ module _ {top : ℕ} {ps : List Pair} where
   pub step-none : {D : List ℕ → Type 0} {W : List ℕ} → Reaches top ps W → D W → ReachStep top ps D W W false
   step-none s d = record { size = refl; reaches = s; told = (refl, d) }
 
-  pub step-then : {D E : List ℕ → Type 0} {W M W′ : List ℕ} {o o′ o″ : Bool} → o″ ≡ (o || o′) → ReachStep top ps D W M o → ReachStep top ps E M W′ o′
-      → ReachStep top ps (λ X. D X × E X) W W′ o″
+  pub step-then : {D E : List ℕ → Type 0} {W M W′ : List ℕ} {o o′ o″ : Bool} → o″ ≡ (o || o′) → ReachStep top ps D W M o
+      → ReachStep top ps E M W′ o′ → ReachStep top ps (λ X. D X × E X) W W′ o″
   step-then {D} {E} {W} {M} {W′} {o} {o′} e h k =
       rw e (record { size = k .size ∙ h .size; reaches = k .reaches; told = told-then top D E W M W′ o o′ (h .told) (k .told) })
 
@@ -58,8 +58,8 @@ module _ {top : ℕ} {ps : List Pair} where
       late j (yes e) = rw (e, getD-set-same W r v 0 l) f
       late j (no e) = rw (getD-set-other W r j v 0 e) (s .late j)
 
-  step-raise : (W : List ℕ) (r v : ℕ) (o : Bool) (W′ : List ℕ) → Reaches top ps W → r < length W → v ≤ top → Forces top ps r v → Rose o r v W W′
-      → ReachStep top ps (λ X. v ≤ reachOf X r) W W′ o
+  step-raise : (W : List ℕ) (r v : ℕ) (o : Bool) (W′ : List ℕ) → Reaches top ps W → r < length W → v ≤ top → Forces top ps r v
+      → Rose o r v W W′ → ReachStep top ps (λ X. v ≤ reachOf X r) W W′ o
   step-raise W r v false W′ s l h f x = rw (x .0) (step-none s (x .1))
   step-raise W r v true W′ s l h f x =
       rw (x .0) (record { size = length-set W r v; reaches = reaches-set W r v s l h f; told = room-set top W r v l (x .1) h })

@@ -17,7 +17,8 @@ use Rattle.split_laws.specs.Split.{works, timings}
 use Rattle.plan_laws.specs.Plan.{twoWorks, twoPeriod, twoOffset}
 use Rattle.plan_laws.specs.Unbeaten.{WorksOver, RivalSplit}
 use Rattle.split_laws.proofs.FoundLaws.{WorkingSplit, split-there, works→there}
-use Rattle.plan_laws.proofs.OffsetLaws.{works→over, over→works, over-coarser, over-longer, over-lower, over-reach, over-early, allEarly, below-common}
+use Rattle.plan_laws.proofs.OffsetLaws.{works→over, over→works, over-coarser, over-longer, over-lower, over-reach}
+use Rattle.plan_laws.proofs.OffsetLaws.{over-early, allEarly, below-common}
 
 -- ---- theorem 1: a split that works at an offset p / q works at the common period less the period too, and p / q is no less
 

@@ -1,4 +1,7 @@
 -- The buffers part by part, and the ways that a call can end, each with the whole promise.
+-- A refusal changes nothing. An allowed call stores the free timings in the first n places and the split's in the next n, which
+-- is one store of both (`over-twice`), and clears the scratch; so each part read back is the schedule that was meant (`front`,
+-- `behind`). No rival beats them (`plan-unbeaten`), and being admissible and in range both pass a check (`admissible-passes`).
 use Prim.Native.Nat.{ℕ, _+_, _-_, _*_, _≤_}
 use mathlib.Core.List.{List, [], _∷_, _++_, append-assoc}
 use mathlib.Core.Path.{_≡_, refl, ap, sym, _∙_}
@@ -42,7 +45,8 @@ use Rattle.planner.specs.PlanCall.{planCallChecks, planChecks, planning,
 -- ---- a refusal changes nothing
 
 module _ (ws answer scratch : List ℕ) where
-  kept : {number place : ℕ} → planning ws (length answer) (length scratch) ≡ refused number place → PlanAs ws answer answer scratch scratch (Refused number place)
+  kept : {number place : ℕ} → planning ws (length answer) (length scratch) ≡ refused number place
+      → PlanAs ws answer answer scratch scratch (Refused number place)
   unfolding replyOf bufferAfter scratchAfter planReply
   kept e =
       record {
@@ -121,7 +125,8 @@ module _ {ws : List ℕ} {n m room spare : ℕ} (a : PlanAllowed ws n m room spa
 
   module _ {top two : ℕ} (e : top ≡ common (pairs ws)) {W : List ℕ} (r : Reached ws W two) where
     -- the reaches come back in the first n places, and the split is read from them
-    pub two-filled : (scratch answer : List ℕ) {answer′ : List ℕ} → answer′ ≡ over (take n answer ++ timings (top - two) (lateAbove two (take n (W ++ drop n scratch)))) answer
+    pub two-filled : (scratch answer : List ℕ) {answer′ : List ℕ}
+        → answer′ ≡ over (take n answer ++ timings (top - two) (lateAbove two (take n (W ++ drop n scratch)))) answer
         → TwoIn ws n answer answer′ scratch (W ++ drop n scratch) two
     two-filled scratch answer stored =
         let size : length W ≡ n = r .size ∙ sym (a .list .registersAre) in
@@ -135,7 +140,8 @@ module _ {ws : List ℕ} {n m room spare : ℕ} (a : PlanAllowed ws n m room spa
 -- ---- the whole plan
 
 -- two parts, stored one after the other
-over-twice : (xs ys buffer : List ℕ) (n : ℕ) → length xs ≡ n → n + length ys ≤ length buffer → over (take n (over xs buffer) ++ ys) (over xs buffer) ≡ over (xs ++ ys) buffer
+over-twice : (xs ys buffer : List ℕ) (n : ℕ) → length xs ≡ n → n + length ys ≤ length buffer
+    → over (take n (over xs buffer) ++ ys) (over xs buffer) ≡ over (xs ++ ys) buffer
 over-twice xs ys buffer n e h =
     let first : Filled xs buffer (over xs buffer) = record { room = omega (arith, e); is = refl } in
     filled-put first ys (over (take n (over xs buffer) ++ ys) (over xs buffer)) {at = n} (sym e) h
@@ -150,7 +156,8 @@ abbrev C : List ℕ → List ℕ
 C ws = twoTimings (registers ws) (pairs ws)
 
 module _ (ws answer scratch : List ℕ) {n m : ℕ} (a : PlanAllowed ws n m (length answer) (length scratch)) where
-  whole : Unbeaten (registers ws) (pairs ws) (common (pairs ws)) (freePeriod (registers ws) (pairs ws)) (twoPeriod (registers ws) (pairs ws)) (twoOffset (registers ws) (pairs ws)) (F ws) (C ws)
+  whole : Unbeaten (registers ws) (pairs ws) (common (pairs ws)) (freePeriod (registers ws) (pairs ws))
+      (twoPeriod (registers ws) (pairs ws)) (twoOffset (registers ws) (pairs ws)) (F ws) (C ws)
   whole = plan-unbeaten (registers ws) (pairs ws) (pairs-in-range ws (a .list .accepted))
 
   -- the split's timings, brought to a check at the two-timing period
@@ -163,16 +170,19 @@ module _ (ws answer scratch : List ℕ) {n m : ℕ} (a : PlanAllowed ws n m (len
       (λ r. rw (whole .split .shown) (limit r)) (whole .split .meets)
 
   outcome : planning ws (length answer) (length scratch)
-      ≡ done (common (pairs ws) ∷ freePeriod (registers ws) (pairs ws) ∷ twoPeriod (registers ws) (pairs ws) ∷ twoOffset (registers ws) (pairs ws) ∷ []) ((F ws) ++ (C ws))
+      ≡ done
+      (common (pairs ws) ∷ freePeriod (registers ws) (pairs ws) ∷ twoPeriod (registers ws) (pairs ws) ∷ twoOffset (registers ws) (pairs ws) ∷ [])
+      ((F ws) ++ (C ws))
   unfolding planning
   outcome = answered-done (planChecks ws (length answer) (length scratch)) _ (a .none)
 
-  module _ {top free two : ℕ} {A₁ A₂ S₁ S₂ : List ℕ} (e : top ≡ common (pairs ws)) (f : FreeIn ws answer A₁ free) (t : TwoIn ws n A₁ A₂ scratch S₁ two)
-      (cleared : S₂ ≡ replicate (scratchPlaces n m) 0 ++ drop (scratchPlaces n m) S₁) where
+  module _ {top free two : ℕ} {A₁ A₂ S₁ S₂ : List ℕ} (e : top ≡ common (pairs ws)) (f : FreeIn ws answer A₁ free)
+      (t : TwoIn ws n A₁ A₂ scratch S₁ two) (cleared : S₂ ≡ replicate (scratchPlaces n m) 0 ++ drop (scratchPlaces n m) S₁) where
     stored : A₂ ≡ over ((F ws) ++ (C ws)) answer
     stored =
         t .places ∙ ap (λ (x : List ℕ). over (take n x ++ (C ws)) x) (f .places)
-        ∙ over-twice (F ws) (C ws) answer n (whole .freely .size ∙ sym (a .list .registersAre)) (omega (arith, whole .split .size, a .list .registersAre, a .answers))
+        ∙ over-twice (F ws) (C ws) answer n (whole .freely .size ∙ sym (a .list .registersAre))
+        (omega (arith, whole .split .size, a .list .registersAre, a .answers))
 
     zeros : S₂ ≡ over (replicate (scratchPlaces (registers ws) (pairCount ws)) 0) scratch
     zeros =

@@ -36,7 +36,8 @@ fn fill_split(
     answer: &mut [u32],
     scratch: &mut [u32],
 ) -> u32
-    requires { ⌜ PlanAllowed (now words) n m (length (now answer)) (length (now scratch)) × (common ≡ commonOf (pairs (now words))) × (free ≡ freePeriod (registers (now words)) (pairs (now words))) ⌝ }
+    requires { ⌜ PlanAllowed (now words) n m (length (now answer)) (length (now scratch)) × (common ≡ commonOf (pairs (now words)))
+        × (free ≡ freePeriod (registers (now words)) (pairs (now words))) ⌝ }
     ensures { λ r. ⌜ TwoIn (now (words .entry)) n (now (answer .entry)) (now (answer .exit)) (now (scratch .entry)) (now (scratch .exit)) r ⌝ }
 {
     let two = reach::two_period(words, m, common, free - 1, &mut scratch[..n]);

@@ -1,11 +1,12 @@
 -- Laws of the scratch of a trial: what is recorded, and the part that is lent to the recording.
+-- Flag q is that of row q % 4 of pair q / 4, so the four flags of pair k stand at places 4k to 4k + 3 (`recorded`).
 use mathlib.Core.Path.{_≡_, refl, sym, ap, _∙_}
 use mathlib.Core.List.{List, [], _∷_, _++_, append-nil}
 use Prim.Native.Nat.{ℕ, zero, suc, _+_, _-_, _*_, _/_, _%_, _≤_, _<_}
 use native.Mathlib.Omega.{arith}
 use lib.ListN.{length-map, length, getD, take, drop, length-drop, drop-of-length-le, List·getD-append}
 use lib.Seq.{ext-getD, getD-take, length-take-le, getD-drop, take-all, drop-drop}
-use Rattle.timing.specs.Limits.{scratchPlaces}
+use Rattle.timing.specs.Limits.{perPair, scratchPlaces}
 use Rattle.buffers.specs.Run.{run}
 use Rattle.buffers.specs.Over.{over}
 use Rattle.buffers.proofs.RunLaws.{run-length, run-at}
@@ -28,37 +29,39 @@ pub flags-length : (t s : ℕ) (ws : List ℕ) (q : ℕ) → length (flagsTo t s
 flags-length t s ws q = run-length _ 1 (λ k. refl) q ∙ omega arith
 
 -- place q of what is recorded
-flag-is : (t s : ℕ) (ws after : List ℕ) (end q : ℕ) → q < end → getD (flagsTo t s ws end ++ after) q 0 ≡ flagAt t s (pairAt ws (q / 4)) (q % 4)
+flag-is : (t s : ℕ) (ws after : List ℕ) (end q : ℕ) → q < end
+    → getD (flagsTo t s ws end ++ after) q 0 ≡ flagAt t s (pairAt ws (q / perPair)) (q % perPair)
 flag-is t s ws after end q h =
     let e : 1 * q + 0 ≡ q = omega arith in
     List·getD-append (flagsTo t s ws end) after 0 q (rw (flags-length t s ws end) h)
-    ∙ (rw e at (run-at (λ k. flagAt t s (pairAt ws (k / 4)) (k % 4) ∷ []) 1 (λ k. refl) end q 0 h (omega arith)))
+    ∙ (rw e at (run-at (λ k. flagAt t s (pairAt ws (k / perPair)) (k % perPair) ∷ []) 1 (λ k. refl) end q 0 h (omega arith)))
 
 -- what stands at place j of four
-four-at : (F : List ℕ) (at j : ℕ) → j < 4 → getD (fourAt F at) j 0 ≡ getD F (at + j) 0
+four-at : (F : List ℕ) (at j : ℕ) → j < perPair → getD (fourAt F at) j 0 ≡ getD F (at + j) 0
 four-at F at zero h = let e : at + 0 ≡ at = omega arith in rw e
 four-at F at (suc zero) h = refl
 four-at F at (suc (suc zero)) h = refl
 four-at F at (suc (suc (suc zero))) h = refl
 four-at F at (suc (suc (suc (suc j)))) h = absurd (omega arith)
 
-pub recorded : (t s : ℕ) (ws after : List ℕ) → Recorded t s ws (flagsTo t s ws (4 * pairCount ws) ++ after)
+pub recorded : (t s : ℕ) (ws after : List ℕ) → Recorded t s ws (flagsTo t s ws (perPair * pairCount ws) ++ after)
 recorded t s ws after = record { each = each }
   where
-    each : (k : ℕ) → k < pairCount ws → Flagged t s (pairAt ws k) (fourAt (flagsTo t s ws (4 * pairCount ws) ++ after) (4 * k))
+    each : (k : ℕ) → k < pairCount ws → Flagged t s (pairAt ws k) (fourAt (flagsTo t s ws (perPair * pairCount ws) ++ after) (perPair * k))
     each k h j l =
-        let d : (4 * k + j) / 4 ≡ k = omega arith in
-        let r : (4 * k + j) % 4 ≡ j = omega arith in
-        four-at (flagsTo t s ws (4 * pairCount ws) ++ after) (4 * k) j l
-        ∙ (rw (d, r) at (flag-is t s ws after (4 * pairCount ws) (4 * k + j) (omega arith)))
+        let d : (perPair * k + j) / perPair ≡ k = omega arith in
+        let r : (perPair * k + j) % perPair ≡ j = omega arith in
+        four-at (flagsTo t s ws (perPair * pairCount ws) ++ after) (perPair * k) j l
+        ∙ (rw (d, r) at (flag-is t s ws after (perPair * pairCount ws) (perPair * k + j) (omega arith)))
 
 -- the flags of a pair, read from the whole scratch
-pub four-drop : (cut k : ℕ) (S : List ℕ) → fourAt S (cut + 4 * k) ≡ fourAt (drop cut S) (4 * k)
+pub four-drop : (cut k : ℕ) (S : List ℕ) → fourAt S (cut + perPair * k) ≡ fourAt (drop cut S) (perPair * k)
 four-drop cut k S =
-    let e1 : cut + 4 * k + 1 ≡ cut + (4 * k + 1) = omega arith in
-    let e2 : cut + 4 * k + 2 ≡ cut + (4 * k + 2) = omega arith in
-    let e3 : cut + 4 * k + 3 ≡ cut + (4 * k + 3) = omega arith in
-    rw (e1, e2, e3, getD-drop cut S (4 * k) 0, getD-drop cut S (4 * k + 1) 0, getD-drop cut S (4 * k + 2) 0, getD-drop cut S (4 * k + 3) 0)
+    let e1 : cut + perPair * k + 1 ≡ cut + (perPair * k + 1) = omega arith in
+    let e2 : cut + perPair * k + 2 ≡ cut + (perPair * k + 2) = omega arith in
+    let e3 : cut + perPair * k + 3 ≡ cut + (perPair * k + 3) = omega arith in
+    let at : (j : ℕ) → getD (drop cut S) j 0 ≡ getD S (cut + j) 0 = λ j. getD-drop cut S j 0 in
+    rw (e1, e2, e3, at (perPair * k), at (perPair * k + 1), at (perPair * k + 2), at (perPair * k + 3))
 
 -- ---- the part from `cut` on, lent and brought back with its first places filled by fs
 
@@ -84,7 +87,8 @@ timings-run s n M h = ext-getD 0 _ _ (size ∙ sym sizes) each
     sizes : length (timings s (splitOf (take n M))) ≡ n
     sizes = length-map (splitOf (take n M)) (timeOf s) ∙ length-splitOf (take n M) ∙ length-take-le n M h
 
-    each : (i : ℕ) → i < length (run (λ k. timeOf s (isLate (getD M k 0)) ∷ []) n) → getD (run (λ k. timeOf s (isLate (getD M k 0)) ∷ []) n) i 0 ≡ getD (timings s (splitOf (take n M))) i 0
+    each : (i : ℕ) → i < length (run (λ k. timeOf s (isLate (getD M k 0)) ∷ []) n)
+        → getD (run (λ k. timeOf s (isLate (getD M k 0)) ∷ []) n) i 0 ≡ getD (timings s (splitOf (take n M))) i 0
     each i l =
         let below : i < n = omega (arith, size) in
         let e : 1 * i + 0 ≡ i = omega arith in

@@ -9,7 +9,7 @@ use Rattle.list_format.specs.Lists.{pairCount, pairAt, pairs}
 use Rattle.split_laws.specs.declared.Change.{Change}
 use Rattle.split_laws.specs.Split.{works}
 use Rattle.split_laws.specs.Marks.{Agrees, Kept, MarkStep, MarksClosed}
-use Rattle.propagate.specs.Store.{Recorded}
+use Rattle.propagate.specs.Store.{flagsFrom, Recorded}
 
 -- the split works at a period and an offset whose flags stand in F
 pub record Working (ws F : List ℕ) (c : List Bool) : Type 0 where
@@ -22,7 +22,7 @@ pub record Working (ws F : List ℕ) (c : List Bool) : Type 0 where
 pub record Pass (ws : List ℕ) (n : ℕ) (C : List ℕ → List ℕ → Type 0) (S S′ : List ℕ) (o : Change) : Type 0 where
   pub size : length S′ ≡ length S
   pub rest : drop n S′ ≡ drop n S
-  pub step : MarkStep (Working ws (drop (6 * n) S)) (C (drop (6 * n) S)) (take n S) (take n S′) o
+  pub step : MarkStep (Working ws (drop (flagsFrom n) S)) (C (drop (flagsFrom n) S)) (take n S) (take n S′) o
 
 -- pair k forces nothing more
 abbrev pub PairClosed : List ℕ → ℕ → List ℕ → List ℕ → Type 0
@@ -38,11 +38,11 @@ AllClosed ws F M = (k : ℕ) → k < pairCount ws → PairClosed ws k F M
 pub record Carried (ws : List ℕ) (n : ℕ) (S S′ : List ℕ) : Type 0 where
   pub size : length S′ ≡ length S
   pub rest : drop n S′ ≡ drop n S
-  pub kept : Kept (Working ws (drop (6 * n) S)) (take n S) (take n S′)
+  pub kept : Kept (Working ws (drop (flagsFrom n) S)) (take n S) (take n S′)
 
 abbrev pub Said : Bool → List ℕ → ℕ → List ℕ → List ℕ → Type 0
-Said true ws n S S′ = AllClosed ws (drop (6 * n) S) (take n S′)
-Said false ws n S S′ = (c : List Bool) → Working ws (drop (6 * n) S) c → Agrees c (take n S) → ⊥
+Said true ws n S S′ = AllClosed ws (drop (flagsFrom n) S) (take n S′)
+Said false ws n S S′ = (c : List Bool) → Working ws (drop (flagsFrom n) S) c → Agrees c (take n S) → ⊥
 
 -- true: no pair forces more; false: no split that works agrees with the marks
 pub record Propagated (ws : List ℕ) (n : ℕ) (S S′ : List ℕ) (r : Bool) : Type 0 where

@@ -5,16 +5,20 @@ use mathlib.Core.Bool.{Bool, true, false}
 use mathlib.Core.List.{List, [], _∷_}
 use Prim.Native.Nat.{ℕ, _+_, _*_, _/_, _%_, _≤_, _<_}
 use lib.ListN.{length, getD, take, drop, replicate}
-use Rattle.timing.specs.Limits.{scratchPlaces}
+use Rattle.timing.specs.Limits.{perRegister, perPair, scratchPlaces}
 use Rattle.buffers.specs.Run.{run}
 use Rattle.list_format.specs.Lists.{pairCount, pairAt, pairs, AcceptedList}
 use Rattle.split_laws.specs.Split.{Found, nothing, found, firstSplit}
 use Rattle.split_laws.specs.Table.{flagAt}
 use Rattle.split_laws.specs.Marks.{Flagged, splitOf}
 
+-- the place from which on the flags stand
+abbrev pub flagsFrom : ℕ → ℕ
+flagsFrom n = perRegister * n
+
 -- the flags of the pairs at period t and offset s, one after the other: the first q of them
 abbrev pub flagsTo : ℕ → ℕ → List ℕ → ℕ → List ℕ
-flagsTo t s ws = run (λ q. flagAt t s (pairAt ws (q / 4)) (q % 4) ∷ [])
+flagsTo t s ws = run (λ q. flagAt t s (pairAt ws (q / perPair)) (q % perPair) ∷ [])
 
 -- the four numbers from place `at` on
 abbrev pub fourAt : List ℕ → ℕ → List ℕ
@@ -22,7 +26,7 @@ fourAt xs at = getD xs at 0 ∷ getD xs (at + 1) 0 ∷ getD xs (at + 2) 0 ∷ ge
 
 -- F holds the flags of all pairs of the list, at period t and offset s
 pub record Recorded (t s : ℕ) (ws F : List ℕ) : Type 0 where
-  pub each : (k : ℕ) → k < pairCount ws → Flagged t s (pairAt ws k) (fourAt F (4 * k))
+  pub each : (k : ℕ) → k < pairCount ws → Flagged t s (pairAt ws k) (fourAt F (perPair * k))
 
 -- an accepted list with n registers and m pairs, and room for a trial
 pub record Lent (ws : List ℕ) (n m : ℕ) (S : List ℕ) : Type 0 where
@@ -33,7 +37,7 @@ pub record Lent (ws : List ℕ) (n m : ℕ) (S : List ℕ) : Type 0 where
 pub record Prepared (t s : ℕ) (ws : List ℕ) (n : ℕ) (S S′ : List ℕ) : Type 0 where
   pub size : length S′ ≡ length S
   pub blank : take n S′ ≡ replicate n 0
-  pub flags : Recorded t s ws (drop (6 * n) S′)
+  pub flags : Recorded t s ws (drop (flagsFrom n) S′)
   pub rest : drop (scratchPlaces n (pairCount ws)) S′ ≡ drop (scratchPlaces n (pairCount ws)) S
 
 -- true: the marks give the first split; false: there is none

@@ -5,16 +5,19 @@ ghost use mathlib.Core.List.{_++_};
 ghost use Prim.Native.Nat.{_+_, _*_, _≤_, _<_};
 ghost use lib.ListN.{length, take, drop, replicate};
 ghost use Rattle.buffers.specs.Over.{over};
+ghost use Rattle.timing.specs.Limits.{perPair};
 ghost use Rattle.list_format.specs.Lists.{registers, AcceptedList};
 ghost use Rattle.split_laws.specs.Split.{timings};
 ghost use Rattle.split_laws.specs.Marks.{splitOf};
 ghost use Rattle.propagate.specs.Store.{flagsTo, fourAt, Lent, Prepared, Decided};
 ghost use Rattle.propagate.specs.Passes.{Pass, PairClosed, AllClosed, Propagated};
 use split_laws::Change;
+use timing::PER_PAIR;
+use timing::PER_REGISTER;
 
 // The flags of a pair, from the place of the first on.
-fn flags_at(scratch: &[u32], at: usize) -> [u32; 4]
-    requires { ⌜ at + 4 ≤ length (now scratch) ⌝ }
+fn flags_at(scratch: &[u32], at: usize) -> [u32; PER_PAIR]
+    requires { ⌜ at + perPair ≤ length (now scratch) ⌝ }
     ensures { λ r. ⌜ r ≡ fourAt (now (scratch .entry)) at ⌝ }
 {
     [
@@ -31,7 +34,7 @@ fn step(words: &[u32], n: usize, m: usize, k: usize, scratch: &mut [u32]) -> Cha
     ensures { λ o. ⌜ Pass (now (words .entry)) n (PairClosed (now (words .entry)) k) (now (scratch .entry)) (now (scratch .exit)) o ⌝ }
 {
     let pair = delay_list::pair_at(words, k);
-    let flags = flags_at(scratch, 6 * n + 4 * k);
+    let flags = flags_at(scratch, PER_REGISTER * n + PER_PAIR * k);
     marks::settle(&mut scratch[..n], pair, flags)
 }
 
@@ -68,14 +71,14 @@ fn propagate(words: &[u32], n: usize, m: usize, scratch: &mut [u32]) -> bool
 
 // The broken choices of all pairs, four places to a pair.
 fn record_broken(words: &[u32], period: u32, offset: u32, m: usize, flags: &mut [u32])
-    requires { ⌜ AcceptedList (now words) (registers (now words)) m × (4 * m ≤ length (now flags)) ⌝ }
-    ensures { λ _. ⌜ now (flags .exit) ≡ over (flagsTo period offset (now (words .entry)) (4 * m)) (now (flags .entry)) ⌝ }
+    requires { ⌜ AcceptedList (now words) (registers (now words)) m × (perPair * m ≤ length (now flags)) ⌝ }
+    ensures { λ _. ⌜ now (flags .exit) ≡ over (flagsTo period offset (now (words .entry)) (perPair * m)) (now (flags .entry)) ⌝ }
 {
-    let end = 4 * m;
+    let end = PER_PAIR * m;
     let mut q = 0;
     while q < end {
-        let pair = delay_list::pair_at(words, q / 4);
-        flags[q] = marks::broken_flag(pair, period, offset, q % 4);
+        let pair = delay_list::pair_at(words, q / PER_PAIR);
+        flags[q] = marks::broken_flag(pair, period, offset, q % PER_PAIR);
         q += 1;
     }
 }
@@ -86,7 +89,7 @@ fn prepare(words: &[u32], period: u32, offset: u32, n: usize, m: usize, scratch:
     ensures { λ _. ⌜ Prepared period offset (now (words .entry)) n (now (scratch .entry)) (now (scratch .exit)) ⌝ }
 {
     buffers::clear(scratch, n);
-    let cut = 6 * n;
+    let cut = PER_REGISTER * n;
     record_broken(words, period, offset, m, &mut scratch[cut..]);
 }
 

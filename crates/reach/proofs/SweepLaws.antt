@@ -1,4 +1,7 @@
 -- The pairs of a list one by one: what the sweeps, the period and the split's timings keep from turn to turn.
+-- A step raises both ends of a pair to what it forces, so that reaches stay reaches. It tells that nothing rose, and then the pair
+-- is closed, or that there is less left to rise. Steps make one step (`step-then`), so a sweep is built up pair by pair; one
+-- where nothing rose leaves all pairs closed at the same reaches, and the others come to an end.
 use mathlib.Core.Path.{_≡_, refl, ap, sym, _∙_, subst}
 use mathlib.Core.Bool.{Bool, true, false, _||_, true≢false}
 use mathlib.Core.List.{List, [], _∷_, _++_, append-nil}
@@ -57,8 +60,8 @@ module _ {ws : List ℕ} {count top : ℕ} {W : List ℕ} (r : Reaching ws count
         }
 
     -- both its ends raised
-    pub pair-stepped : {M W′ : List ℕ} {x y o : Bool} → Raised (p .capture) (ahead top p W) W M x → Raised (p .launch) (behind top p M) M W′ y → o ≡ (x || y)
-        → ReachStep top (pairs ws) (ClosedAt ws top k) W W′ o
+    pub pair-stepped : {M W′ : List ℕ} {x y o : Bool} → Raised (p .capture) (ahead top p W) W M x → Raised (p .launch) (behind top p M) M W′ y
+        → o ≡ (x || y) → ReachStep top (pairs ws) (ClosedAt ws top k) W W′ o
     pair-stepped a b e =
         step-with (λ d. subst (λ (q : Pair). ReachClosed top W q) (is .same) d) (pair-step pair-of (pair-raisable .inside) (r .reaches) a b e)
 
@@ -82,8 +85,8 @@ module _ {ws : List ℕ} {count top : ℕ} {W : List ℕ} (r : Reaching ws count
   sweeping-start down = record { bound = zero-le; step = step-none (r .reaches) (λ j l. absurd (omega arith)) }
 
   module _ {down : Bool} {W′ : List ℕ} {moved : Bool} {i : ℕ} (s : Sweeping ws count top down W W′ moved i) where
-    pub sweeping-turn : {k : ℕ} {W″ : List ℕ} {o moved′ : Bool} → i < count → k ≡ placeOf count down i → ReachStep top (pairs ws) (ClosedAt ws top k) W′ W″ o → moved′ ≡ (moved || o)
-        → Sweeping ws count top down W W″ moved′ (i + 1)
+    pub sweeping-turn : {k : ℕ} {W″ : List ℕ} {o moved′ : Bool} → i < count → k ≡ placeOf count down i
+        → ReachStep top (pairs ws) (ClosedAt ws top k) W′ W″ o → moved′ ≡ (moved || o) → Sweeping ws count top down W W″ moved′ (i + 1)
     sweeping-turn {k} l at h e =
         let place : k ≡ placeOf (pairCount ws) down i = at ∙ ap (λ m. placeOf m down i) (r .list .pairsAre) in
         record {
@@ -103,7 +106,8 @@ module _ {ws : List ℕ} {count top : ℕ} {W : List ℕ} (r : Reaching ws count
       go true e x = absurd (true≢false e)
 
 -- a sweep that raised something leaves less to rise
-pub sweep-less : {top : ℕ} {ps : List Pair} {D : List ℕ → Type 0} {W W′ : List ℕ} {o : Bool} → ReachStep top ps D W W′ o → o ≡ true → room top W′ < room top W
+pub sweep-less : {top : ℕ} {ps : List Pair} {D : List ℕ → Type 0} {W W′ : List ℕ} {o : Bool} → ReachStep top ps D W W′ o
+    → o ≡ true → room top W′ < room top W
 sweep-less {top} {ps} {D} {W} {W′} {o} h e = go o e (h .told)
   where
     go : (o : Bool) → o ≡ true → ReachTold o top D W W′ → room top W′ < room top W
@@ -112,7 +116,7 @@ sweep-less {top} {ps} {D} {W} {W′} {o} h e = go o e (h .told)
 
 -- ---- the period
 
--- the longest that the first k pairs ask for, with those from place k on, gives the period
+-- the longest that the first k pairs ask for, with those from place k on, gives the period: a maximum, taken over pair by pair
 pub record Asked (ws W : List ℕ) (most k : ℕ) : Type 0 where
   pub place : k ≤ pairCount ws
   pub pos : 1 ≤ most
@@ -122,8 +126,8 @@ pub asked-start : {ws W : List ℕ} → Asked ws W 1 0
 asked-start {ws} {W} = record { place = zero-le; pos = le-refl 1; same = rw sub-zero (omega (arith, period-from 1 W (pairs ws))) }
 
 module _ {ws W : List ℕ} {most k : ℕ} (a : Asked ws W most k) where
-  pub asked-turn : {one next : ℕ} {p : Pair} → k < pairCount ws → IsPair ws k p → one ≡ min (reachOf W (p .launch)) (p .greatest) → next ≡ max most one
-      → Asked ws W next (k + 1)
+  pub asked-turn : {one next : ℕ} {p : Pair} → k < pairCount ws → IsPair ws k p → one ≡ min (reachOf W (p .launch)) (p .greatest)
+      → next ≡ max most one → Asked ws W next (k + 1)
   unfolding pairsFrom reachPeriod
   asked-turn {one} {next} {p} h is e f =
       let left : pairCount ws - k ≡ suc (pairCount ws - (k + 1)) = omega arith in
@@ -140,11 +144,18 @@ module _ {ws W : List ℕ} {most k : ℕ} (a : Asked ws W most k) where
 
 -- ---- from equal reaches to the period and its split
 
-module _ {ws : List ℕ} {count top : ℕ} (floor : ℕ) (W : List ℕ) (list : AcceptedList ws (length W) count) (e : top ≡ common (pairs ws)) (b : Bound (pairs ws) (floor + 1)) where
+-- At a period of `floor` or less no times meet the rules, so no split works: `floor` is a reach of every register. Reaches that no
+-- pair raises further give the two-timing period and its split (ReachTwo, of plan_laws).
+module _ {ws : List ℕ} {count top : ℕ} (floor : ℕ) (W : List ℕ) (list : AcceptedList ws (length W) count)
+    (e : top ≡ common (pairs ws)) (b : Bound (pairs ws) (floor + 1)) where
   pub reaching-start : {W′ : List ℕ} → W′ ≡ replicate (length W) floor ++ drop (length W) W → Reaching ws count top W′
   reaching-start {W′} levelled =
       record {
-        list = record { accepted = list .accepted; registersAre = ap length level ∙ length-replicate (length W) floor ∙ list .registersAre; pairsAre = list .pairsAre };
+        list = record {
+          accepted = list .accepted;
+          registersAre = ap length level ∙ length-replicate (length W) floor ∙ list .registersAre;
+          pairsAre = list .pairsAre;
+        };
         topIs = e;
         reaches = rw level (reaches-level top (pairs ws) (length W) floor (omega (arith, e, bound-common b)) b);
       }

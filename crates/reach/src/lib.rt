@@ -141,7 +141,8 @@ fn time_of(offset: u32, two: u32, reach: u32) -> u32
 // The timings of the split that the first n reaches give, put in the n places from place n on.
 pub fn write_split(reach: &[u32], n: usize, two: u32, offset: u32, answer: &mut [u32])
     requires { ⌜ (n ≤ length (now reach)) × (n + n ≤ length (now answer)) ⌝ }
-    ensures { λ _. ⌜ now (answer .exit) ≡ over (take n (now (answer .entry)) ++ timings offset (lateAbove two (take n (now (reach .entry))))) (now (answer .entry)) ⌝ }
+    ensures { λ _. ⌜ now (answer .exit)
+        ≡ over (take n (now (answer .entry)) ++ timings offset (lateAbove two (take n (now (reach .entry))))) (now (answer .entry)) ⌝ }
 {
     let mut i = 0;
     while i < n {

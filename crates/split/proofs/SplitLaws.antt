@@ -1,4 +1,7 @@
 -- The ways that a call can end, each with the whole promise.
+-- A refusal changes nothing. An allowed call comes to what the trial decided, the first split or none, and its outcome is known:
+-- reply, buffer and scratch follow by computation. That a split handed out works, and that no split works where none is, is what
+-- the first split means (FoundLaws, of split_laws); being admissible and in range, its timings pass a check.
 use Prim.Native.Nat.{ℕ, _≤_}
 use mathlib.Core.Bool.{Bool, true, false}
 use mathlib.Core.List.{List, _++_}
@@ -43,12 +46,14 @@ module _ (ws : List ℕ) (period offset : ℕ) (answer scratch : List ℕ) where
       }
 
   -- the list is refused
-  pub list-refused : {number place : ℕ} → verdict ws ≡ ListRefused number place → SplitAs ws period offset answer answer scratch scratch (Refused number place)
+  pub list-refused : {number place : ℕ} → verdict ws ≡ ListRefused number place
+      → SplitAs ws period offset answer answer scratch scratch (Refused number place)
   unfolding splitting
   list-refused v = kept (first-refused (listChecks ws) _ _ (refused→fault ws v))
 
   -- the list is accepted, and the caller's checks decide
-  module _ {n m : ℕ} (v : verdict ws ≡ Accepted n m) {f : Fault} (e : f ≡ firstFault (splitCallChecks n m period offset (length answer) (length scratch))) where
+  module _ {n m : ℕ} (v : verdict ws ≡ Accepted n m) {f : Fault}
+      (e : f ≡ firstFault (splitCallChecks n m period offset (length answer) (length scratch))) where
     fault-is : f ≡ firstFault (splitCallChecks (registers ws) (pairCount ws) period offset (length answer) (length scratch))
     fault-is =
         let a = accepted→none ws v in
@@ -77,7 +82,8 @@ module _ (ws : List ℕ) (period offset : ℕ) (answer scratch : List ℕ) where
   -- ---- an allowed call
   module _ {n m : ℕ} (a : SplitAllowed ws period offset n m answer scratch) where
     -- what the trial decided, and the scratch cleared after it
-    module _ (S S′ : List ℕ) {r : Bool} (d : Decided period offset ws n scratch S r) (cleared : S′ ≡ replicate (scratchPlaces n m) 0 ++ drop (scratchPlaces n m) S) where
+    module _ (S S′ : List ℕ) {r : Bool} (d : Decided period offset ws n scratch S r)
+        (cleared : S′ ≡ replicate (scratchPlaces n m) 0 ++ drop (scratchPlaces n m) S) where
       zeros : S′ ≡ over (replicate (scratchPlaces (registers ws) (pairCount ws)) 0) scratch
       zeros = cleared ∙ rw (length-replicate, a .lent .list .pairsAre, d .rest, a .lent .list .registersAre)
 

@@ -37,7 +37,8 @@ fn show(
     scratch: &mut [u32],
 ) -> Splitting
     requires { ⌜ SplitAllowed (now words) period offset n m (now answer) (now scratch) ⌝ }
-    ensures { λ r. ⌜ SplitAs (now (words .entry)) period offset (now (answer .entry)) (now (answer .exit)) (now (scratch .entry)) (now (scratch .exit)) r ⌝ }
+    ensures { λ r. ⌜ SplitAs (now (words .entry)) period offset (now (answer .entry)) (now (answer .exit))
+        (now (scratch .entry)) (now (scratch .exit)) r ⌝ }
 {
     let end = timing::scratch_places(n, m);
     if !propagate::decide(words, period, offset, n, m, scratch) {
@@ -58,7 +59,8 @@ pub fn split(
     answer: &mut [u32],
     scratch: &mut [u32],
 ) -> Splitting
-    ensures { λ r. ⌜ SplitAs (now (words .entry)) period offset (now (answer .entry)) (now (answer .exit)) (now (scratch .entry)) (now (scratch .exit)) r ⌝ }
+    ensures { λ r. ⌜ SplitAs (now (words .entry)) period offset (now (answer .entry)) (now (answer .exit))
+        (now (scratch .entry)) (now (scratch .exit)) r ⌝ }
 {
     match delay_list::verdict(words) {
         Verdict::Refused(number, place) => Splitting::Refused(number, place),

@@ -91,7 +91,9 @@ module _ (p : Pair) (fs : List ℕ) where
       rw e
       (step-with (λ x t s g. record { rows = x .0 t s g; seeded = λ b. x .1 (g 0 (omega arith) ∙ ap flag b) })
       (step-then h
-      (step-for (λ c q f. capture-late (q .period) (q .offset) p c (q .met) (flag-one (q .period) (q .offset) p 0 (sym (q .flags 0 (omega arith)) ∙ f))) h′)))
+      (step-for
+      (λ c q f. capture-late (q .period) (q .offset) p c (q .met) (flag-one (q .period) (q .offset) p 0 (sym (q .flags 0 (omega arith)) ∙ f)))
+      h′)))
 
 -- ---- the split that the marks give
 

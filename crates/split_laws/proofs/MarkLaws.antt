@@ -71,7 +71,8 @@ pub step-for : {P Q : List Bool → Type 0} {C : List ℕ → Type 0} {M M′ : 
     → MarkStep P C M M′ o → MarkStep Q C M M′ o
 step-for p h = step-as (λ c q a. p c q) (λ d. d) h
 
-pub step-with : {P : List Bool → Type 0} {C D : List ℕ → Type 0} {M M′ : List ℕ} {o : Change} → (C M → D M) → MarkStep P C M M′ o → MarkStep P D M M′ o
+pub step-with : {P : List Bool → Type 0} {C D : List ℕ → Type 0} {M M′ : List ℕ} {o : Change} → (C M → D M)
+    → MarkStep P C M M′ o → MarkStep P D M M′ o
 step-with d h = step-as (λ c q a. q) d h
 
 -- ---- force
@@ -113,7 +114,8 @@ module _ (a when b then : ℕ) where
   pub followed-not : (M : List ℕ) → (getD M a 0 ≡ when → ⊥) → Followed a when b then M M Settled
   followed-not M n = step-none M (λ e. absurd (n e))
 
-  pub followed : {M M′ : List ℕ} {o : Change} → (when ≡ 0 → ⊥) → getD M a 0 ≡ when → Forced b then M M′ o → Followed a when b then M M′ o
+  pub followed : {M M′ : List ℕ} {o : Change} → (when ≡ 0 → ⊥) → getD M a 0 ≡ when → Forced b then M M′ o
+      → Followed a when b then M M′ o
   followed n e h = step-as (λ c q g. q (sym (g a (λ z. n (sym e ∙ z))) ∙ e)) (λ f _. f) h
 
 -- ---- a row of the table
@@ -128,7 +130,8 @@ applied-not a b k f M n = step-none M (λ e. absurd (n e))
 -- both halves of row k, one after the other: a split that avoids the row's choice and makes one end of it makes the
 -- opposite of the other end
 pub applied : {a b k f : ℕ} {r : Row} {M M′ M″ : List ℕ} {o o′ o″ : Change} → k < 4 → f ≡ 1 → RowIs k r → o″ ≡ joined o o′ →
-    Followed a (r .launch) b (r .«forced_capture») M M′ o → Followed b (r .capture) a (r .«forced_launch») M′ M″ o′ → Applied a b k f M M″ o″
+    Followed a (r .launch) b (r .«forced_capture») M M′ o → Followed b (r .capture) a (r .«forced_launch») M′ M″ o′
+    → Applied a b k f M M″ o″
 applied {a} {b} {k} {f} {r} l e1 is e h h′ =
     rw e
     (step-as (λ c q g. q e1)

@@ -64,7 +64,9 @@ Forced r v = MarkStep (λ (c : List Bool). choice c r ≡ v) (λ (M : List ℕ).
 
 -- a mark `when` at a forces the mark `then` at b
 abbrev pub Followed : ℕ → ℕ → ℕ → ℕ → List ℕ → List ℕ → Change → Type 0
-Followed a when b then = MarkStep (λ (c : List Bool). choice c a ≡ when → choice c b ≡ then) (λ (M : List ℕ). getD M a 0 ≡ when → getD M b 0 ≡ then)
+Followed a when b then =
+    MarkStep (λ (c : List Bool). choice c a ≡ when → choice c b ≡ then)
+    (λ (M : List ℕ). getD M a 0 ≡ when → getD M b 0 ≡ then)
 
 -- ---- one row of one pair
 

@@ -18,7 +18,8 @@ module _ {A : Type 0} where
   each-zip f (x ∷ xs) h k = (f x (h .0) (k .0), each-zip f xs (h .1) (k .1))
 
   -- what holds of each, and of some, holds of one
-  pub pick-some : {P Q R : A → Type 0} {C : Type 0} → ((x : A) → P x → Q x → R x → C) → (xs : List A) → Each P xs → Each Q xs → Some R xs → C
+  pub pick-some : {P Q R : A → Type 0} {C : Type 0} → ((x : A) → P x → Q x → R x → C) → (xs : List A) → Each P xs
+      → Each Q xs → Some R xs → C
   pick-some f (x ∷ xs) h k (inl r) = f x (h .0) (k .0) r
   pick-some f (x ∷ xs) h k (inr m) = pick-some f xs (h .1) (k .1) m
 

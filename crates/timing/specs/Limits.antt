@@ -25,10 +25,17 @@ maxOffset = 1_000_000
 abbrev pub maxTiming : ℕ
 maxTiming = (maxRegisters - 1) * maxPeriod
 
+-- the places of scratch for one register, and for one pair
+abbrev pub perRegister : ℕ
+perRegister = 6
+
+abbrev pub perPair : ℕ
+perPair = 4
+
 -- the places of scratch that a split or a plan of n registers and m pairs takes: the first 6n serve the registers,
 -- the rest the pairs
 abbrev pub scratchPlaces : ℕ → ℕ → ℕ
-scratchPlaces n m = 6 * n + 4 * m
+scratchPlaces n m = perRegister * n + perPair * m
 
 -- those of the largest list
 abbrev pub maxScratch : ℕ

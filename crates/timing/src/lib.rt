@@ -19,8 +19,13 @@ pub const MAX_OFFSET: u32 = 1_000_000;
 // Each register but one may be a longest period later than another.
 pub const MAX_TIMING: u32 = (MAX_REGISTERS - 1) * MAX_PERIOD;
 
+// The places of scratch for one register, and for one pair.
+pub const PER_REGISTER: usize = 6;
+
+pub const PER_PAIR: usize = 4;
+
 // The places of scratch that the largest list takes.
-pub const MAX_SCRATCH: usize = 6 * MAX_REGISTERS as usize + 4 * MAX_PAIRS;
+pub const MAX_SCRATCH: usize = PER_REGISTER * MAX_REGISTERS as usize + PER_PAIR * MAX_PAIRS;
 
 // The launch and the capture register, and the least and the greatest delay between them.
 pub struct Pair {
@@ -51,7 +56,7 @@ pub fn scratch_places(n: usize, m: usize) -> usize
     requires { ⌜ scratchPlaces n m < 2 ^ 64 ⌝ }
     ensures { λ r. ⌜ r ≡ scratchPlaces n m ⌝ }
 {
-    6 * n + 4 * m
+    PER_REGISTER * n + PER_PAIR * m
 }
 
 pub fn larger(a: u32, b: u32) -> u32

@@ -1,4 +1,5 @@
--- `above_limit` looks at each timing.
+-- `above_limit`: whether some timing is above the limit.
+-- Invariant `Unseen`: the first i are not, so that those from i on decide. What falls: length timings - i.
 use Prim.Native.Nat.{_-_}
 use lib.ListN.{length}
 use Rattle.checker.proofs.CheckLaws.{Unseen, unseen-start, unseen-turn, unseen-stop, unseen-end}

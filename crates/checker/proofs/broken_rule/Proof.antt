@@ -1,4 +1,4 @@
--- `broken_rule` names setup before hold.
+-- `broken_rule`: setup where pair k breaks it, else hold; so setup is named before hold.
 use denote.Ref.{now}
 use Rattle.checker.proofs.CheckLaws.{breaks-hold, breaks-setup}
 use borrow.Author.Needs.{needs}

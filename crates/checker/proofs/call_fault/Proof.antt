@@ -1,4 +1,4 @@
--- `call_fault` makes the checks of the call in order.
+-- `call_fault`: refusal 3, for the period, the count of timings or a timing; one check of `timingChecks` for each `or`.
 use Rattle.refusals.specs.Checks.{faultAfter}
 use borrow.Author.Needs.{needs}
 use Rattle.checker.proofs.call_fault.Statement.{statement}
@@ -6,7 +6,9 @@ use Rattle.checker.proofs.call_fault.Tie as tie
 
 returns : tie.Need-returns
 unfolding faultAfter
-returns c = rw (c .or4 .ensures, c .before .above-limit .ensures, c .before .before .or3 .ensures, c .before .before .before .or2 .ensures, c .before .before .before .before .or .ensures)
+returns c =
+    let d = c .before .before in
+    rw (c .or4 .ensures, c .before .above-limit .ensures, d .or3 .ensures, d .before .or2 .ensures, d .before .before .or .ensures)
 
 pub call-fault-spec : {M : Type 1} → statement M
 call-fault-spec =

@@ -1,4 +1,4 @@
--- `checked` names the first pair that breaks a rule, and the rule.
+-- `checked`: the first pair that breaks a rule, with that rule; admissible where no pair does.
 use denote.Ref.{now}
 use Rattle.checker.proofs.CheckLaws.{found-broken, found-none}
 use borrow.Author.Needs.{needs}

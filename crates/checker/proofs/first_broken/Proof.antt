@@ -1,4 +1,5 @@
--- `first_broken` walks to the first pair that breaks a rule.
+-- `first_broken`: the first pair that breaks a rule, or the count of pairs.
+-- Invariant `Looked`: the pairs before k meet both rules. What falls: count - k.
 use Prim.Native.Nat.{_-_}
 use mathlib.Core.Path.{sym, _∙_}
 use native.Mathlib.Omega.{arith}

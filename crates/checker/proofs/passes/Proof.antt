@@ -1,4 +1,4 @@
--- `passes` tells whether the schedule is admissible.
+-- `passes`: the schedule is admissible exactly where the first broken pair is past the last (`none-test`).
 use denote.Ref.{now}
 use Rattle.checker.proofs.CheckLaws.{none-test}
 use borrow.Author.Needs.{needs}

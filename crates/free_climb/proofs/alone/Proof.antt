@@ -1,4 +1,4 @@
--- `alone` is no more than any period at which the pair can meet its rules.
+-- `alone`: no longer than any period at which the pair alone can meet its rules: setup and hold added up, or setup at equal times.
 use native.Mathlib.Omega.{arith}
 use borrow.Author.Needs.{needs}
 use Rattle.free_climb.proofs.alone.Statement.{statement}

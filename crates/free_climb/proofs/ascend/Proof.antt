@@ -1,4 +1,5 @@
--- `ascend`: trials of longer and longer periods.
+-- `ascend`: the free period with the free schedule, or a period left undecided, below which there is no schedule.
+-- Invariant `Climbing`: no schedule below the period, and what its trial told. What falls: common period + 1 - period.
 use Prim.Native.Nat.{_+_, _-_, _≤_}
 use mathlib.Core.Path.{sym, _∙_}
 use native.Mathlib.Omega.{arith}
@@ -17,32 +18,49 @@ abbrev μ-loop : tie.MeasureT-loop
 μ-loop words count x₀ order most start period₀ next₀ x period next = common (pairs words) + 1 - period
 
 loop-holds : tie.Need-loop-holds Inv-loop μ-loop
-loop-holds c = climbing-after (c .before .before .before .before .before .before .before .pre) (c .before .before .quick .kept .1 .1 .0) (c .before .before .quick .ensures)
+loop-holds c =
+    let w = c .before .before in
+    climbing-after (w .before .before .before .before .before .pre) (w .quick .kept .1 .1 .0) (w .quick .ensures)
 
 quick-requires-2 : tie.Need-quick-requires-2 Inv-loop μ-loop
-quick-requires-2 c κs = climbing-tries (c .before .before .before .before .before .before .before .before .before .before .pre .list) (c .before .before .loop .inv) (c .before .loop-test .taken)
+quick-requires-2 c κs =
+    let l = c .before in
+    climbing-tries (l .before .before .before .before .before .before .before .before .before .pre .list) (l .before .loop .inv) (l .loop-test .taken)
 
 loop-less : tie.Need-loop-less Inv-loop μ-loop
 loop-less c =
     let l = c .before .before .before .before in
-    omega (arith, bound-common (climbing-tries (c .before .before .before .before .before .before .before .before .before .before .before .before .before .pre .list) (l .before .loop .inv) (l .loop-test .taken) .bound))
+    let i = l .before in
+    let trial = climbing-tries (i .before .before .before .before .before .before .before .before .pre .list) (i .loop .inv) (l .loop-test .taken) in
+    omega (arith, bound-common (trial .bound))
 
 loop-again : tie.Need-loop-again Inv-loop μ-loop
 loop-again c =
-    let l = c .before .before .before .before in
-    climbing-after (climbing-tries (c .before .before .before .before .before .before .before .before .before .before .before .before .before .pre .list) (l .before .loop .inv) (l .loop-test .taken)) (c .before .before .quick2 .kept .1 .1 .0) (c .before .before .quick2 .ensures)
+    let w = c .before .before in
+    let l = w .before .before in
+    let i = l .before in
+    let trial = climbing-tries (i .before .before .before .before .before .before .before .before .pre .list) (i .loop .inv) (l .loop-test .taken) in
+    climbing-after trial (w .quick2 .kept .1 .1 .0) (w .quick2 .ensures)
 
 same-length : tie.Need-same-length Inv-loop μ-loop
-same-length c = c .before .before .loop .inv .size ∙ sym (c .before .before .before .before .before .before .before .before .before .before .pre .list .registersAre)
+same-length c =
+    let l = c .before .before in
+    l .loop .inv .size ∙ sym (l .before .before .before .before .before .before .before .before .pre .list .registersAre)
 
 returns : tie.Need-returns Inv-loop μ-loop
-returns c = ascended-undecided (c .before .before .before .before .before .before .before .before .before .before .pre .list) (c .before .before .loop .inv)
+returns c =
+    let l = c .before .before in
+    ascended-undecided (l .before .before .before .before .before .before .before .before .pre .list) (l .loop .inv)
 
 same-length-2 : tie.Need-same-length-2 Inv-loop μ-loop
-same-length-2 c = c .before .before .loop .inv .size ∙ sym (c .before .before .before .before .before .before .before .before .before .before .pre .list .registersAre)
+same-length-2 c =
+    let l = c .before .before in
+    l .loop .inv .size ∙ sym (l .before .before .before .before .before .before .before .before .pre .list .registersAre)
 
 returns-2 : tie.Need-returns-2 Inv-loop μ-loop
-returns-2 c = ascended-settled (c .before .before .before .before .before .before .before .before .before .before .pre .list) (c .before .before .loop .inv) (c .if1 .left) (c .before .loop-test .left)
+returns-2 c =
+    let l = c .before .before in
+    ascended-settled (l .before .before .before .before .before .before .before .before .pre .list) (l .loop .inv) (c .if1 .left) (c .before .loop-test .left)
 
 pub ascend-spec : {M : Type 1} → statement M
 ascend-spec =

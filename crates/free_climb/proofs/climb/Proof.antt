@@ -1,4 +1,4 @@
--- `free_climb`: first in the order of the list.
+-- `climb`: quick trials in the order of the list, and from a period that they leave undecided the climb of `ordered`.
 use mathlib.Core.Path.{_∙_}
 use Rattle.free_climb.proofs.ClimbLaws.{trial-of}
 use borrow.Author.Needs.{needs}

@@ -1,4 +1,5 @@
--- `common` is the common period.
+-- `common`: the largest greatest delay, or 1.
+-- Invariant `Largest`: that of the first k pairs, with the pairs from k on, gives the common period. What falls: count - k.
 use Prim.Native.Nat.{_-_}
 use native.Mathlib.Omega.{arith}
 use Rattle.free_climb.proofs.ClimbLaws.{Largest, largest-start, largest-turn, largest-end}

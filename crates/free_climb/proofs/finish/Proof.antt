@@ -1,4 +1,5 @@
--- `finish`: trials of longer and longer periods, up to the free period.
+-- `finish`: the free period with the free schedule.
+-- Invariant `Climbing`, and the trial told the period or a longer one: nothing is undecided. What falls: common period + 1 - period.
 use Prim.Native.Nat.{_+_, _-_, _≤_}
 use mathlib.Core.Path.{sym, _∙_}
 use native.Mathlib.Omega.{arith}
@@ -22,24 +23,30 @@ loop-holds c =
     (climbing-after (c .before .before .before .before .before .before .pre) (t .kept .1 .1 .0) (record { tried = λ h. t .ensures }), t .ensures .onward)
 
 steady-requires-2 : tie.Need-steady-requires-2 Inv-loop μ-loop
-steady-requires-2 c κs = climbing-tries (c .before .before .before .before .before .before .before .before .before .pre .list) (c .before .before .loop .inv .0) (c .before .loop-test .taken)
+steady-requires-2 c κs =
+    let l = c .before in
+    climbing-tries (l .before .before .before .before .before .before .before .before .pre .list) (l .before .loop .inv .0) (l .loop-test .taken)
 
 loop-less : tie.Need-loop-less Inv-loop μ-loop
 loop-less c =
     let l = c .before .before .before .before in
-    omega (arith, bound-common (climbing-tries (c .before .before .before .before .before .before .before .before .before .before .before .before .pre .list) (l .before .loop .inv .0) (l .loop-test .taken) .bound))
+    let trial = climbing-tries (l .before .before .before .before .before .before .before .before .pre .list) (l .before .loop .inv .0) (l .loop-test .taken) in
+    omega (arith, bound-common (trial .bound))
 
 loop-again : tie.Need-loop-again Inv-loop μ-loop
 loop-again c =
     let t = c .before .before .steady2 in
     let l = c .before .before .before .before in
-    (climbing-after (climbing-tries (c .before .before .before .before .before .before .before .before .before .before .before .before .pre .list) (l .before .loop .inv .0) (l .loop-test .taken)) (t .kept .1 .1 .0) (record { tried = λ h. t .ensures }), t .ensures .onward)
+    let trial = climbing-tries (l .before .before .before .before .before .before .before .before .pre .list) (l .before .loop .inv .0) (l .loop-test .taken) in
+    (climbing-after trial (t .kept .1 .1 .0) (record { tried = λ h. t .ensures }), t .ensures .onward)
 
 same-length : tie.Need-same-length Inv-loop μ-loop
 same-length c = c .before .loop .inv .0 .size ∙ sym (c .before .before .before .before .before .before .before .before .pre .list .registersAre)
 
 returns : tie.Need-returns Inv-loop μ-loop
-returns c = climbing-end (c .before .before .before .before .before .before .before .before .pre .list) (c .before .loop .inv .0) (c .before .loop .inv .1) (c .loop-test .left)
+returns c =
+    let l = c .before in
+    climbing-end (l .before .before .before .before .before .before .before .pre .list) (l .loop .inv .0) (l .loop .inv .1) (c .loop-test .left)
 
 pub finish-spec : {M : Type 1} → statement M
 finish-spec = tie.close (tie.spec Inv-loop μ-loop (λ c κs. search needs) loop-holds steady-requires-2 loop-less loop-again same-length returns)

@@ -1,4 +1,5 @@
--- `lowest` is a bound of the free period.
+-- `lowest`: a period of 1 or more, below which there is no schedule.
+-- Invariant `Most`: `most` is one, from the first k pairs. What falls: count - k.
 use Prim.Native.Nat.{_-_}
 use native.Mathlib.Omega.{arith}
 use Rattle.free_laws.proofs.Bound.{bound-low}
@@ -17,7 +18,9 @@ loop-holds : tie.Need-loop-holds Inv-loop μ-loop
 loop-holds c = record { place = omega arith; pos = omega arith; bound = bound-low (omega arith) }
 
 loop-again : tie.Need-loop-again Inv-loop μ-loop
-loop-again c = most-turn (c .before .before .before .before .loop .inv) (omega arith) (c .before .before .pair-at .ensures) (c .before .alone .ensures) (c .larger .ensures)
+loop-again c =
+    let p = c .before .before in
+    most-turn (p .before .before .loop .inv) (omega arith) (p .pair-at .ensures) (c .before .alone .ensures) (c .larger .ensures)
 
 returns : tie.Need-returns Inv-loop μ-loop
 returns c =

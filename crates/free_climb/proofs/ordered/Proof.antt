@@ -1,4 +1,4 @@
--- `ordered`: the climb in one order, and if need be in every one.
+-- `ordered`: quick trials in the order of a tour, and from a period that they leave undecided the climb of `finish`.
 use denote.Ref.{now}
 use mathlib.Core.Path.{sym, _∙_}
 use native.Mathlib.Omega.{arith}

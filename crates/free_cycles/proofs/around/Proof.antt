@@ -1,4 +1,5 @@
--- `around` walks until it is back at its start, and bounds the period by what it added up.
+-- `around`: no schedule at a period shorter than a closed trail asks for; a trail that is not closed asks for 0.
+-- Invariant `Traced`: the sums are those of rules of the list. What falls: n - steps, for each step adds one at least.
 use Prim.Native.Nat.{_-_}
 use native.Mathlib.Omega.{arith}
 use borrow.Author.Tests.{ltb-true}
@@ -25,7 +26,9 @@ loop-holds : tie.Need-loop-holds Inv-loop μ-loop
 loop-holds c = c .back .ensures .traced
 
 back-requires-2 : tie.Need-back-requires-2 Inv-loop μ-loop
-back-requires-2 c κs = (c .before .before .before .before .before .before .before .before .pre .0, (c .before .before .before .before .loop .inv, ltb-true _ _ (c .if2 .taken)))
+back-requires-2 c κs =
+    let l = c .before .before .before .before in
+    (l .before .before .before .before .pre .0, (l .loop .inv, ltb-true _ _ (c .if2 .taken)))
 
 loop-less : tie.Need-loop-less Inv-loop μ-loop
 loop-less c =

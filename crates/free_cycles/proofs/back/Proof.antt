@@ -1,4 +1,4 @@
--- `back` goes along the parent.
+-- `back`: the register has a place among the parents (`at-parent`); the rest is `along`.
 use Rattle.free_cycles.proofs.TrailLaws.{at-parent}
 use borrow.Author.Needs.{needs}
 use Rattle.free_cycles.proofs.back.Statement.{statement}

@@ -1,4 +1,4 @@
--- `needed` is the least period that the sums allow.
+-- `needed`: of a closed trail, what it asks for less what it leaves, shared by its setups and rounded up (`needed-least`); else 0.
 use Prim.Native.Nat.{_-_}
 use native.Mathlib.Nat.{div-le-self}
 use native.Mathlib.Omega.{arith}
@@ -14,9 +14,10 @@ add-result c =
 
 returns : tie.Need-returns
 returns c = λ u closed.
-    let b = c .before .before .before .before .before .before in
+    let i = c .before .before in
+    let b = i .before .before .before .before in
     let w = b .args .w in
-    needed-least (w .gain) (w .allowance) (w .setups) u (c .before .before .if2 .taken) (omega (arith, b .pre)) (closed (c .before .before .before .before .if1 .taken))
+    needed-least (w .gain) (w .allowance) (w .setups) u (i .if2 .taken) (omega (arith, b .pre)) (closed (i .before .before .if1 .taken))
 
 pub needed-spec : {M : Type 1} → statement M
 needed-spec =

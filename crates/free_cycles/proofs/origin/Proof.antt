@@ -1,4 +1,5 @@
--- `origin` walks on to the end of the steps.
+-- `origin`: n steps back lead to a register of the list.
+-- Invariant `Traced`: the trail stands at one, n steps at most. What falls: n - steps, for each step adds one at least.
 use Prim.Native.Nat.{_-_}
 use native.Mathlib.Omega.{arith}
 use Rattle.free_cycles.specs.Tracing.{Traced}

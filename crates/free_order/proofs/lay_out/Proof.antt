@@ -1,4 +1,5 @@
--- `lay_out`: a turn less each time.
+-- `lay_out`: safe, and it ends; nothing is promised of the order.
+-- Invariant: `order` keeps its length. What falls: the turns left.
 use mathlib.Core.Path.{_≡_, refl, _∙_}
 use lib.ListN.{length}
 use native.Mathlib.Omega.{arith}

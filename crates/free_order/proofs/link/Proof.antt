@@ -1,4 +1,5 @@
--- `link`: pair after pair.
+-- `link`: safe, and it ends: only pairs of the list are read.
+-- Invariant: k ≤ count. What falls: count - k.
 use Prim.Native.Nat.{_-_, _≤_}
 use native.Mathlib.Omega.{arith}
 use borrow.Author.Needs.{needs}

@@ -1,4 +1,5 @@
--- `visit`: each end comes before the last.
+-- `visit`: safe, and it ends.
+-- Invariant: `order` keeps its length. What falls: the end at hand, for the walk goes on to a smaller one only.
 use mathlib.Core.Path.{_≡_, refl, _∙_}
 use lib.ListN.{length}
 use native.Mathlib.Omega.{arith}
@@ -19,13 +20,17 @@ same-length : tie.Need-same-length Inv-loop μ-loop
 same-length c = c .before .before .loop .inv
 
 same-length-2 : tie.Need-same-length-2 Inv-loop μ-loop
-same-length-2 c = c .before .before .before .before .before .before .before .place .kept .1 .1 .1 .0 ∙ c .before .before .before .before .before .before .before .before .before .before .before .before .before .before .loop .inv
+same-length-2 c =
+    let w = c .before .before .before .before .before .before .before in
+    w .place .kept .1 .1 .1 .0 ∙ w .before .before .before .before .before .before .before .loop .inv
 
 loop-less : tie.Need-loop-less Inv-loop μ-loop
 loop-less c = omega arith
 
 loop-again : tie.Need-loop-again Inv-loop μ-loop
-loop-again c = c .before .before .before .before .before .before .before .place .kept .1 .1 .1 .0 ∙ c .before .before .before .before .before .before .before .before .before .before .before .before .before .before .loop .inv
+loop-again c =
+    let w = c .before .before .before .before .before .before .before in
+    w .place .kept .1 .1 .1 .0 ∙ w .before .before .before .before .before .before .before .loop .inv
 
 same-length-3 : tie.Need-same-length-3 Inv-loop μ-loop
 same-length-3 c = c .before .loop .inv

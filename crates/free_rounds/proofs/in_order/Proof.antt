@@ -1,4 +1,5 @@
--- `in_order`: what each turn raises.
+-- `in_order`: a round in any order raises no register past times that meet the rules.
+-- Invariant `Risen`: so it is from the times at the start to those after i turns. What falls: count - i.
 use Prim.Native.Nat.{_-_}
 use native.Mathlib.Omega.{arith}
 use Rattle.timing.specs.Limits.{maxTiming}

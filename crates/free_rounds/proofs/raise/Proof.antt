@@ -1,4 +1,4 @@
--- `raise` is `raiseTo`.
+-- `raise`: the register is as late as the rule asks, up to the limit; one that is late enough stays (`raise-more`, `raise-none`).
 use denote.Ref.{now}
 use native.Mathlib.Omega.{arith}
 use Rattle.timing.specs.Limits.{maxTiming}

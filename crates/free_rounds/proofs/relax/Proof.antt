@@ -1,4 +1,4 @@
--- `relax` is `relaxTo`.
+-- `relax`: the capture raised as far as setup asks, then the launch as far as hold asks (`relax-is`).
 use denote.Ref.{now}
 use native.Mathlib.Omega.{arith}
 use Rattle.timing.specs.Limits.{maxTiming}
@@ -14,12 +14,15 @@ add-raise c =
     omega (arith, b .pre .raisable .capped (b .args .p .launch))
 
 raise-requires-2 : tie.Need-raise-requires-2
-raise-requires-2 c κs = (raised _ _ (c .before .before .before .before .before .before .before .before .before .before .before .before .before .pre .raisable) (c .before .before .before .before .before .raise .ensures), (search needs, search needs))
+raise-requires-2 c κs =
+    let w = c .before .before .before .before .before in
+    (raised _ _ (w .before .before .before .before .before .before .before .before .pre .raisable) (w .raise .ensures), (search needs, search needs))
 
 returns : tie.Need-returns
 returns c =
-    let a = c .before .before .before .before .before .before .before .before .before .before .before .before .before .before .before .before .args in
-    relax-is maxTiming (a .period) (a .p) (now (a .x)) (c .before .before .before .before .before .before .before .before .raise .ensures) (c .before .before .raise2 .ensures)
+    let w = c .before .before .before .before .before .before .before .before in
+    let a = w .before .before .before .before .before .before .before .before .args in
+    relax-is maxTiming (a .period) (a .p) (now (a .x)) (w .raise .ensures) (c .before .before .raise2 .ensures)
 
 pub relax-spec : {M : Type 1} → statement M
 relax-spec =

@@ -1,4 +1,4 @@
--- `relax_at`: relaxed, or left as it was.
+-- `relax_at`: pair k relaxed, or the times left as they were where the list has no pair k; both are `Risen`.
 use Rattle.free_rounds.proofs.RoundLaws.{risen-start, turn-ready, risen-turn}
 use borrow.Author.Needs.{needs}
 use Rattle.free_rounds.proofs.relax_at.Statement.{statement}

@@ -1,4 +1,5 @@
--- `round` relaxes each pair once.
+-- `round`: each pair relaxed once, up or down the list.
+-- Invariant `Part`: the pairs at the first i places have what both rules ask of the times at the start. What falls: count - i.
 use Prim.Native.Nat.{_-_}
 use Rattle.free_rounds.proofs.RoundLaws.{Part, part-start, turn-pair, turn-ready, part-turn, part-end}
 use borrow.Author.Needs.{needs}
@@ -29,7 +30,8 @@ loop-again c =
     let p = a .before in
     let l = p .before .before in
     let b = l .before .before .before in
-    part-turn (b .pre) (b .args .down) (l .loop .inv) (p .place .ensures .1) (p .place .ensures .0) (p .before .loop-test .taken) (a .pair-at .ensures) (c .before .before .relax .ensures)
+    part-turn (b .pre) (b .args .down) (l .loop .inv) (p .place .ensures .1) (p .place .ensures .0)
+    (p .before .loop-test .taken) (a .pair-at .ensures) (c .before .before .relax .ensures)
 
 returns : tie.Need-returns Inv-loop μ-loop
 returns c =

@@ -1,4 +1,4 @@
--- `fill` lends the first n places to the climb.
+-- `fill`: the first n places are lent to the climb and come back with the free schedule; later places stay (`lent-back`).
 use Rattle.free_schedule.proofs.CallLaws.{lent-size, lent-ready, lent-back}
 use borrow.Author.Needs.{needs}
 use Rattle.free_schedule.proofs.fill.Statement.{statement}

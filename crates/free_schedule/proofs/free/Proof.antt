@@ -1,4 +1,4 @@
--- `free`: the list decides, then the room.
+-- `free`: a refused list is refused with its place, and nothing is stored; an accepted one goes on to `settle`.
 use denote.Ref.{now}
 use mathlib.Core.Path.{sym, _∙_}
 use Rattle.free_schedule.proofs.CallLaws.{list-stops, list-counts}
@@ -7,7 +7,9 @@ use Rattle.free_schedule.proofs.free.Statement.{statement}
 use Rattle.free_schedule.proofs.free.Tie as tie
 
 settle-requires : tie.Need-settle-requires
-settle-requires c κs = list-counts (now (c .before .before .before .before .before .before .before .args .words)) (sym (c .before .before .before .before .verdict .ensures) ∙ c .before .before .n .given .1)
+settle-requires c κs =
+    let v = c .before .before .before .before in
+    list-counts (now (v .before .before .before .args .words)) (sym (v .verdict .ensures) ∙ c .before .before .n .given .1)
 
 returns : tie.Need-returns
 returns c =

@@ -1,4 +1,4 @@
--- All places of x are cleared.
+-- `clear`: every place of x is 0 (`all-cleared`).
 use Rattle.free_trials.proofs.TrialLaws.{all-cleared}
 use borrow.Author.Needs.{needs}
 use Rattle.free_trials.proofs.clear.Statement.{statement}

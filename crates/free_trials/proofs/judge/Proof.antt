@@ -1,4 +1,5 @@
--- `judge` tells the period itself only of an admissible schedule.
+-- `judge`: no schedule at a period shorter than what it tells: by a cycle, by what is known, or for it is 0.
+-- The period itself is told only of an admissible schedule.
 use mathlib.Core.Path.{sym, _∙_}
 use native.Mathlib.Omega.{arith}
 use Rattle.free_laws.proofs.Bound.{bound-low}

@@ -1,4 +1,5 @@
--- `quick`: rounds in any order keep x under every schedule.
+-- `quick`: what it tells, if not below the period, is what a trial may tell; 0 leaves the period undecided.
+-- Invariant `Under`: x is no later than any times that meet the rules, in whatever order it was raised. What falls: most - done.
 use Prim.Native.Nat.{_-_}
 use mathlib.Core.Path.{sym, _∙_}
 use native.Mathlib.Omega.{arith}
@@ -23,24 +24,31 @@ hinted-requires c κs =
 
 judge-requires : tie.Need-judge-requires Inv-loop μ-loop
 judge-requires c κs =
-    let l = c .before .before .before .before .before .before .before .before in
-    under-judges (l .before .before .before .before .before .before .before .before .pre) (under-turn (l .loop .inv) (c .before .before .before .before .hinted .ensures))
+    let w = c .before .before .before .before in
+    let l = w .before .before .before .before in
+    under-judges (l .before .before .before .before .before .before .before .before .pre) (under-turn (l .loop .inv) (w .hinted .ensures))
 
 same-length : tie.Need-same-length Inv-loop μ-loop
 same-length c =
-    let l = c .before .before .before .before .before .before .before .before .before .before in
-    under-turn (l .loop .inv) (c .before .before .before .before .before .before .hinted .ensures) .size ∙ sym (l .before .before .before .before .before .before .before .before .pre .list .registersAre)
+    let w = c .before .before .before .before .before .before in
+    let l = w .before .before .before .before in
+    let p = l .before .before .before .before .before .before .before .before .pre in
+    under-turn (l .loop .inv) (w .hinted .ensures) .size ∙ sym (p .list .registersAre)
 
 returns : tie.Need-returns Inv-loop μ-loop
 returns c =
-    let l = c .before .before .before .before .before .before .before .before .before .before in
-    record { tried = under-told (l .before .before .before .before .before .before .before .before .pre) (under-turn (l .loop .inv) (c .before .before .before .before .before .before .hinted .ensures)) (c .before .judge .ensures) }
+    let w = c .before .before .before .before .before .before in
+    let l = w .before .before .before .before in
+    let p = l .before .before .before .before .before .before .before .before .pre in
+    record { tried = under-told p (under-turn (l .loop .inv) (w .hinted .ensures)) (c .before .judge .ensures) }
 
 loop-less : tie.Need-loop-less Inv-loop μ-loop
 loop-less c = omega arith
 
 loop-again : tie.Need-loop-again Inv-loop μ-loop
-loop-again c = under-turn (c .before .before .before .before .before .before .before .before .before .before .loop .inv) (c .before .before .before .before .before .before .hinted .ensures)
+loop-again c =
+    let w = c .before .before .before .before .before .before in
+    under-turn (w .before .before .before .before .loop .inv) (w .hinted .ensures)
 
 same-length-2 : tie.Need-same-length-2 Inv-loop μ-loop
 same-length-2 c = c .before .loop .inv .size ∙ sym (c .before .before .before .before .before .before .before .before .before .pre .list .registersAre)

@@ -1,4 +1,4 @@
--- One check of the run for each `or`.
+-- `call_fault`: refusals 2 and 1 in order, one check of `planCallChecks` for each `or`.
 use Rattle.refusals.specs.Checks.{orCheck, faultAfter}
 use borrow.Author.Needs.{needs}
 use Rattle.planner.proofs.call_fault.Statement.{statement}

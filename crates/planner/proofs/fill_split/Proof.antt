@@ -1,4 +1,4 @@
--- `fill_split` lends the first n places of the scratch to the reaches, and reads the split from them.
+-- `fill_split`: the reaches, in the first n places of the scratch, give the two-timing period, and its split is read from them.
 use denote.Ref.{now}
 use mathlib.Core.Path.{refl, sym}
 use Rattle.planner.proofs.PlanCallLaws.{lent-size, lent-ready, free-pos, free-bound, two-fits, two-filled}

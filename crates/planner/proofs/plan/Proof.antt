@@ -1,4 +1,4 @@
--- `plan`: one law for each way to end.
+-- `plan`: the list is refused, or the call, or the plan is made (`show`). One law for each way to end.
 use denote.Ref.{now}
 use mathlib.Core.Path.{sym, _∙_}
 use Rattle.planner.proofs.PlanCallLaws.{list-refused, call-refused, call-allowed}

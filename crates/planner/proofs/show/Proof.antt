@@ -1,4 +1,4 @@
--- `show`: the free timings, the split's timings, and the scratch cleared.
+-- `show`: the free timings, then the split's timings behind them, and the scratch left zero: the whole plan (`planned`).
 use denote.Ref.{now}
 use Rattle.planner.proofs.PlanCallLaws.{allowed-kept, planned, two-fits}
 use borrow.Author.Needs.{needs}
@@ -26,7 +26,8 @@ returns c =
     let f = t .before .before .before .before .before in
     let sized = f .before .before .before in
     let b = sized .before .before .before .before in
-    planned (now (b .args .words)) (now (b .args .answer)) (now (b .args .scratch)) (b .pre) (f .before .before .common .ensures) (f .fill .ensures) (t .fill-split .ensures)
+    planned (now (b .args .words)) (now (b .args .answer)) (now (b .args .scratch)) (b .pre)
+    (f .before .before .common .ensures) (f .fill .ensures) (t .fill-split .ensures)
     (rw (sized .scratch-places .ensures) at (c .before .before .clear .ensures))
 
 pub show-spec : {M : Type 1} → statement M

@@ -1,4 +1,4 @@
--- `decide`: from a blank scratch, by the passes, to the first split.
+-- `decide`: true with the marks of the first split, false where no split works: blank marks, the flags, then the passes (`decided`).
 use denote.Ref.{now}
 use Rattle.propagate.proofs.DecideLaws.{decided}
 use borrow.Author.Needs.{needs}

@@ -1,4 +1,4 @@
--- `prepare`: the marks are cleared, and the flags recorded in the part lent.
+-- `prepare`: blank marks, and the flags of all pairs in the part lent from place 6n on; what lies behind stays (`prepared`).
 use denote.Ref.{now}
 use Rattle.propagate.proofs.DecideLaws.{prepared}
 use borrow.Author.Needs.{needs}

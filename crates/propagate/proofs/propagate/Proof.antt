@@ -1,4 +1,6 @@
--- `propagate`: each pass that changes something leaves fewer registers without a mark.
+-- `propagate`: true where no pair forces more, false where no split that works agrees with the marks.
+-- Invariant `Carried`: each split that works and agreed at the start still agrees.
+-- What falls: the registers without a mark, for a pass that changes something sets one.
 use denote.Ref.{now}
 use lib.ListN.{take}
 use Rattle.split_laws.specs.Marks.{unset}

@@ -1,10 +1,12 @@
--- `record_broken`: the first q flags are stored.
+-- `record_broken`: the flags of all pairs, four to a pair.
+-- Invariant `Filling`: the first q flags are stored. What falls: end - q.
 use mathlib.Core.List.{[], _∷_}
 use mathlib.Core.Path.{_≡_, refl}
 use Prim.Native.Nat.{_*_, _/_, _%_, _-_, _<_}
 use native.Mathlib.Omega.{arith}
 use lib.ListN.{length}
 use Rattle.buffers.proofs.FillLaws.{Filling, filled-none, filling-start, filling-size, filling-end, filling-turn, set-put}
+use Rattle.timing.specs.Limits.{perPair}
 use Rattle.list_format.specs.Lists.{pairAt}
 use Rattle.split_laws.specs.Table.{flagAt}
 use Rattle.list_format.proofs.ListLaws.{pair-in}
@@ -14,7 +16,7 @@ use Rattle.propagate.proofs.record_broken.Tie as tie
 
 abbrev Inv-loop : tie.InvT-loop
 Inv-loop words period offset m flags₀ end q₀ flags q =
-    (end ≡ 4 * m) × Filling [] (λ q. flagAt period offset (pairAt words (q / 4)) (q % 4) ∷ []) end flags₀ flags q
+    (end ≡ perPair * m) × Filling [] (λ q. flagAt period offset (pairAt words (q / perPair)) (q % perPair) ∷ []) end flags₀ flags q
 
 abbrev μ-loop : tie.MeasureT-loop
 μ-loop words period offset m flags₀ end q₀ flags q = end - q

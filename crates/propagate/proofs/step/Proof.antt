@@ -1,4 +1,4 @@
--- `step`: the pair is settled in the marks lent.
+-- `step`: what pair k forces is followed in the marks lent, by its flags; where nothing changes it forces no more (`pair-pass`).
 use denote.Ref.{now}
 use mathlib.Core.Path.{_≡_, refl, sym}
 use native.Mathlib.Omega.{arith}
@@ -18,8 +18,13 @@ settle-requires : tie.Need-settle-requires
 settle-requires c κs =
     let b = c .before .before .before .before .before .before in
     let p = c .before .before .before .pair-at .ensures in
-    let e : length (take (b .args .n) (now (b .args .scratch))) ≡ b .args .n = length-take-le (b .args .n) (now (b .args .scratch)) (omega (arith, b .pre .0 .room)) in
-    record { launch = omega (arith, p .values .launch, b .pre .0 .list .registersAre); capture = omega (arith, p .values .capture, b .pre .0 .list .registersAre) }
+    let n = b .args .n in
+    let scratch = now (b .args .scratch) in
+    let e : length (take n scratch) ≡ n = length-take-le n scratch (omega (arith, b .pre .0 .room)) in
+    record {
+      launch = omega (arith, p .values .launch, b .pre .0 .list .registersAre);
+      capture = omega (arith, p .values .capture, b .pre .0 .list .registersAre);
+    }
 
 returns : tie.Need-returns
 returns c =
@@ -35,5 +40,5 @@ returns c =
 pub step-spec : {M : Type 1} → statement M
 step-spec =
     tie.close
-    (tie.spec (λ c κs. search needs) (λ c. search needs) (λ c. search needs) (λ c. search needs) (λ c κs. search needs) (λ c. search needs) slice-aggregate-settle
-    settle-requires (λ c. search needs) returns)
+    (tie.spec (λ c κs. search needs) (λ c. search needs) (λ c. search needs) (λ c. search needs) (λ c κs. search needs) (λ c. search needs)
+    slice-aggregate-settle settle-requires (λ c. search needs) returns)

@@ -1,4 +1,5 @@
--- `sweep`: the first i pairs force nothing more.
+-- `sweep`: a pass over all pairs, up or down the list; settled where no pair forces more.
+-- Invariant: a `Pass` for which the pairs at the first i places force no more (`MarksClosedTo`). What falls: m - i.
 use denote.Ref.{now}
 use mathlib.Core.Path.{_≡_}
 use Prim.Native.Nat.{_≤_, _-_}

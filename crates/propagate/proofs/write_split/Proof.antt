@@ -1,4 +1,5 @@
--- `write_split`: the timings of the first i marks are stored.
+-- `write_split`: the offset for each of the first n registers that is marked late, 0 for any other.
+-- Invariant `Filling`: the timings of the first i are stored. What falls: n - i.
 use denote.Ref.{now}
 use mathlib.Core.List.{[], _∷_}
 use mathlib.Core.Path.{refl}

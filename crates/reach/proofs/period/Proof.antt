@@ -1,4 +1,5 @@
--- `period` is the longest period that a pair asks for.
+-- `period`: the longest period that a pair asks for, or 1.
+-- Invariant `Asked`: that of the first k pairs, with the pairs from k on, gives the period. What falls: count - k.
 use Prim.Native.Nat.{_-_}
 use native.Mathlib.Omega.{arith}
 use Rattle.reach.proofs.SweepLaws.{Asked, asked-start, asked-turn, asked-end}
@@ -18,7 +19,8 @@ loop-holds c = asked-start
 loop-again : tie.Need-loop-again Inv-loop μ-loop
 loop-again c =
     let l = c .before .before .before .before in
-    asked-turn (l .loop .inv) (omega (arith, l .before .before .before .pre .pairsAre)) (c .before .before .pair-at .ensures) (c .before .asked .ensures) (c .larger .ensures)
+    asked-turn (l .loop .inv) (omega (arith, l .before .before .before .pre .pairsAre)) (c .before .before .pair-at .ensures)
+    (c .before .asked .ensures) (c .larger .ensures)
 
 returns : tie.Need-returns Inv-loop μ-loop
 returns c = asked-end (c .before .loop .inv) (omega (arith, c .before .before .before .before .pre .pairsAre))

@@ -1,4 +1,4 @@
--- `raise_capture` raises to `ahead`.
+-- `raise_capture`: the capture has at least the reach that the pair forces on it (`ahead`).
 use borrow.Author.Needs.{needs}
 use Rattle.reach.proofs.raise_capture.Statement.{statement}
 use Rattle.reach.proofs.raise_capture.Tie as tie

@@ -1,4 +1,4 @@
--- `raise_launch` raises to `behind`.
+-- `raise_launch`: the launch has at least the reach that a late capture forces on it (`behind`).
 use borrow.Author.Needs.{needs}
 use Rattle.reach.proofs.raise_launch.Statement.{statement}
 use Rattle.reach.proofs.raise_launch.Tie as tie

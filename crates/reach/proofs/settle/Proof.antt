@@ -1,4 +1,5 @@
--- `settle`: each sweep that raises something leaves less to rise.
+-- `settle`: reaches that no pair raises further.
+-- Invariant `Reaching`: each is a reach of its register. What falls: `room`, which a sweep that raised something leaves smaller.
 use mathlib.Core.Path.{sym, _∙_}
 use borrow.Author.Tests.{not-true, not-false}
 use Rattle.plan_laws.specs.Reach.{room}

@@ -1,4 +1,4 @@
--- `step`: both ends of a pair, raised to what is forced.
+-- `step`: both ends of pair k raised, the capture first; where neither rose, the pair raises nothing further (`pair-stepped`).
 use native.Mathlib.Omega.{arith}
 use Rattle.reach.proofs.SweepLaws.{pair-raisable, pair-stepped, raisable-kept}
 use borrow.Author.Needs.{needs}
@@ -21,7 +21,8 @@ returns c =
     let w = c .before .before .before .before .before .before .before in
     let p = w .before .before in
     let r = p .before .before .before .pre in
-    pair-stepped (r .0) (p .pair-at .ensures) (omega (arith, r .0 .list .pairsAre)) (w .raise-capture .ensures) (c .before .before .before .raise-launch .ensures) (c .either .ensures)
+    pair-stepped (r .0) (p .pair-at .ensures) (omega (arith, r .0 .list .pairsAre)) (w .raise-capture .ensures)
+    (c .before .before .before .raise-launch .ensures) (c .either .ensures)
 
 pub step-spec : {M : Type 1} → statement M
 step-spec =

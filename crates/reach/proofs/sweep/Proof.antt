@@ -1,4 +1,5 @@
--- `sweep`: the pairs at the first i places raise nothing further.
+-- `sweep`: every pair once; where no reach rose, no pair raises one further.
+-- Invariant `Sweeping`: the same of the pairs at the first i places. What falls: count - i.
 use Prim.Native.Nat.{_-_}
 use native.Mathlib.Omega.{arith}
 use Rattle.reach.proofs.SweepLaws.{reaching-then, Sweeping, sweeping-start, sweeping-turn, sweeping-end}

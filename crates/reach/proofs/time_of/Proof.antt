@@ -1,4 +1,4 @@
--- `time_of`: late where the reach is above the period.
+-- `time_of`: the offset where the reach is above the period, else 0.
 use borrow.Author.Tests.{lt-ltb, le-ltb}
 use Rattle.reach.proofs.time_of.Statement.{statement}
 use Rattle.reach.proofs.time_of.Tie as tie

@@ -1,4 +1,4 @@
--- `two_period`: from equal reaches until none rises any more.
+-- `two_period`: every reach starts at `floor`, below which no split works; swept, they give the two-timing period (`reached`).
 use denote.Ref.{now}
 use Rattle.reach.proofs.SweepLaws.{reaching-start, reached}
 use borrow.Author.Needs.{needs}

@@ -1,4 +1,5 @@
--- `write_split`: behind the first n places, the timings of the first i reaches are stored.
+-- `write_split`: the timings of the split that the first n reaches give, behind the first n places.
+-- Invariant `Filling`: those of the first i registers are stored there. What falls: n - i.
 use denote.Ref.{now}
 use mathlib.Core.Path.{refl}
 use Prim.Native.Nat.{_+_, _-_, _<_}

@@ -1,4 +1,4 @@
--- `show`: the trial decides; the timings are written where there is a split.
+-- `show`: the trial decides; the timings are stored where a split works, and the scratch is zero either way. One law for each answer.
 use denote.Ref.{now}
 use borrow.Author.Tests.{not-true, not-false}
 use Rattle.split.proofs.SplitLaws.{none-shown, split-shown}

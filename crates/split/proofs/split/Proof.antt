@@ -1,4 +1,4 @@
--- `split`: one law for each way to end.
+-- `split`: the list is refused, or the call, or the trial decides (`show`). One law for each way to end.
 use denote.Ref.{now}
 use mathlib.Core.Path.{sym, _∙_}
 use Rattle.split.proofs.SplitLaws.{list-refused, call-refused, call-allowed}
