@@ -3,6 +3,7 @@
 ghost use mathlib.Core.Path.{_≡_};
 ghost use Prim.Native.Nat.{_+_, _-_, _*_, _^_, _<_, _≤_};
 ghost use lib.ListN.{length};
+ghost use Rattle.words.specs.Word.{countBits};
 ghost use Rattle.refusals.specs.Checks.{firstFault, faultAfter};
 ghost use Rattle.list_format.specs.Lists.{word, pairCount, pairPlace, placeOf, pairOf, IsAccepted, PairIn, IsPair, verdict as verdictOf};
 ghost use Rattle.list_format.specs.Lists.{headChecks, kindChecks, valueChecks, pairChecks, endChecks, bodyChecks};
@@ -14,7 +15,7 @@ use timing::Pair;
 
 // The place of the first word of pair k; for k = m, that of the end word.
 pub fn pair_place(k: usize) -> usize
-    requires { ⌜ k ≤ 4096 ⌝ }
+    requires { ⌜ k ≤ 2 ^ countBits ⌝ }
     ensures { λ r. ⌜ r ≡ pairPlace k ⌝ }
 {
     3 * k + 1
@@ -40,7 +41,7 @@ fn head_fault(head: u32, len: usize) -> Fault
     let m = words::head_pairs(head) as usize;
     Fault::None
         .or(len < 2, 11, 0)
-        .or(words::kind(head) != 1, 12, 0)
+        .or(words::kind(head) != words::KIND_HEAD, 12, 0)
         .or(words::head_spare(head) != 0, 12, 0)
         .or(n == 0, 12, 0)
         .or(n > timing::MAX_REGISTERS, 12, 0)
@@ -54,10 +55,10 @@ fn kind_fault(pair: u32, least: u32, greatest: u32, at: usize) -> Fault
     ensures { λ r. ⌜ r ≡ firstFault (kindChecks pair least greatest at) ⌝ }
 {
     Fault::None
-        .or(words::kind(pair) != 2, 13, at)
+        .or(words::kind(pair) != words::KIND_PAIR, 13, at)
         .or(words::pair_spare(pair) != 0, 13, at)
-        .or(words::kind(least) != 3, 13, at + 1)
-        .or(words::kind(greatest) != 4, 13, at + 2)
+        .or(words::kind(least) != words::KIND_LEAST, 13, at + 1)
+        .or(words::kind(greatest) != words::KIND_GREATEST, 13, at + 2)
 }
 
 // 14, 15, 16: the values of a pair in a list of n registers, after what was found before.
@@ -81,7 +82,7 @@ pub fn value_fault(
 
 // All checks of pair k.
 fn pair_fault(words: &[u32], n: u32, k: usize) -> Fault
-    requires { ⌜ (k < 4096) × (pairPlace k + 3 ≤ length (now words)) ⌝ }
+    requires { ⌜ (k < 2 ^ countBits) × (pairPlace k + 3 ≤ length (now words)) ⌝ }
     ensures { λ r. ⌜ r ≡ firstFault (pairChecks (now (words .entry)) n k) ⌝ }
 {
     let at = pair_place(k);
@@ -101,13 +102,13 @@ fn end_fault(words: &[u32], at: usize) -> Fault
     let last = words[at];
     let sum = words::end_payload(words, at);
     Fault::None
-        .or(words::kind(last) != 7, 13, at)
+        .or(words::kind(last) != words::KIND_END, 13, at)
         .or(words::payload(last) != sum, 17, at)
 }
 
 // The checks of all that stands after the head: pair by pair, then the end.
 fn body_fault(words: &[u32], n: u32, m: usize) -> Fault
-    requires { ⌜ (m < 4096) × (length (now words) ≡ pairPlace m + 1) ⌝ }
+    requires { ⌜ (m < 2 ^ countBits) × (length (now words) ≡ pairPlace m + 1) ⌝ }
     ensures { λ r. ⌜ r ≡ firstFault (bodyChecks (now (words .entry)) n m) ⌝ }
 {
     let mut k = 0;
