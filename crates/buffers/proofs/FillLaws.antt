@@ -31,7 +31,8 @@ module _ {xs was now : List ℕ} (f : Filled xs was now) where
   filled-size = rw (f .is, length-append, length-drop) (omega (arith, f .room))
 
   -- one stretch more, stored at the place reached
-  pub filled-put : (vs after : List ℕ) {at : ℕ} → at ≡ length xs → at + length vs ≤ length was → after ≡ take at now ++ (vs ++ drop (at + length vs) now)
+  pub filled-put : (vs after : List ℕ) {at : ℕ} → at ≡ length xs → at + length vs ≤ length was
+      → after ≡ take at now ++ (vs ++ drop (at + length vs) now)
       → Filled (xs ++ vs) was after
   filled-put vs after {at} e h s =
       record {
@@ -68,7 +69,8 @@ module _ {before : List ℕ} {f : ℕ → List ℕ} {m : ℕ} {was now : List �
       rw (← e) (h .filled .is)
 
   -- the next stretch, stored at the place reached
-  module _ (w : ℕ) (wide : (k : ℕ) → length (f k) ≡ w) (room : length before + w * m ≤ length was) {k : ℕ} (h : Filling before f m was now k) (l : k < m) where
+  module _ (w : ℕ) (wide : (k : ℕ) → length (f k) ≡ w) (room : length before + w * m ≤ length was) {k : ℕ} (h : Filling before f m was now k)
+      (l : k < m) where
     pub filling-room : length before + w * k + w ≤ length was
     filling-room = omega (arith, mul-le-mul-left w l, mul-suc w k)
 

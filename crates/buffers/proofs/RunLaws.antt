@@ -22,7 +22,8 @@ module _ (f : ℕ → List ℕ) (w : ℕ) (wide : (k : ℕ) → length (f k) ≡
   run-at zero k j h l = absurd (omega arith)
   run-at (suc m) k j h l = go (eq-or-lt-of-le (le-of-suc-le-suc h)) (run-at m k j)
     where
-      go : (k ≡ m) ⊎ (k < m) → (k < m → j < w → getD (run f m) (w * k + j) 0 ≡ getD (f k) j 0) → getD (run f m ++ f m) (w * k + j) 0 ≡ getD (f k) j 0
+      go : (k ≡ m) ⊎ (k < m) → (k < m → j < w → getD (run f m) (w * k + j) 0 ≡ getD (f k) j 0)
+          → getD (run f m ++ f m) (w * k + j) 0 ≡ getD (f k) j 0
       go (inl e) before = rw (e, ← run-length m, getD-append-add (run f m) (f m) j 0)
       go (inr b) before =
           let inside : w * k + j < length (run f m) = omega (arith, run-length m, mul-le-mul-left w b, mul-suc w k) in

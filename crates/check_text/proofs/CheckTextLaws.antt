@@ -19,7 +19,7 @@ use Rattle.checker.specs.declared.Checking.{Checking}
 use Rattle.checker.specs.declared.Checking.the-variants.{Admissible, Broken, Refused}
 use Rattle.text_pieces.specs.Pieces.{Put, letters, named, space}
 use Rattle.text_pieces.proofs.PutLaws.{put-within}
-use Rattle.refusal_text.specs.PlainWords.{lineWidth, refusalLine, faultLine}
+use Rattle.refusal_text.specs.RefusalText.{lineWidth, refusalLine, faultLine}
 use Rattle.list_bytes.specs.ListBytes.{listOf}
 use Rattle.scan.specs.declared.Scanned.{Scanned}
 use Rattle.scan.specs.declared.Scanned.the-variants.{Numbers, Faulty}
@@ -44,7 +44,8 @@ found-below ws s t {k} {rule} e = go (ltb (firstBroken ws t s) (pairCount ws)) r
         absurd (omega arith)
 
 module _ {ws s : List ℕ} {t : ℕ} {r : Checking} (a : CheckedAs ws t s r) where
-  pub line-refused : {number place next : ℕ} {text text′ : List ℕ} → r ≡ Refused number place → Put lineWidth (refusalLine number place) text 0 text′ next
+  pub line-refused : {number place next : ℕ} {text text′ : List ℕ} → r ≡ Refused number place
+      → Put lineWidth (refusalLine number place) text 0 text′ next
       → Put linePlaces (checkedLine ws t s) text 0 text′ next
   unfolding checkReply checkedLine
   line-refused e put = rw (told-refusal refusalLine (λ xs ys. foundLine ws xs) (checking ws t s) (rw e at (a .reply))) put
@@ -98,7 +99,8 @@ module _ {ts was now : List ℕ} {r : Scanned} (a : ScanAs false ts was now r) w
       rw here put
 
   module _ {count : ℕ} (e : r ≡ Numbers count) where
-    pub text-numbers : (bs : List ℕ) (t : ℕ) {next : ℕ} {text text′ : List ℕ} → Put linePlaces (checkedLine (listOf bs) t (take count now)) text 0 text′ next
+    pub text-numbers : (bs : List ℕ) (t : ℕ) {next : ℕ} {text text′ : List ℕ}
+        → Put linePlaces (checkedLine (listOf bs) t (take count now)) text 0 text′ next
         → Put linePlaces (checkText bs t ts) text 0 text′ next
     unfolding scannedLine
     text-numbers bs t put =

@@ -8,7 +8,7 @@ use Rattle.refusals.specs.Reply.{told}
 use Rattle.list_format.specs.Lists.{pairAt}
 use Rattle.checker.specs.Check.{checking}
 use Rattle.text_pieces.specs.Pieces.{letters, named, space, newline, numberWidth}
-use Rattle.refusal_text.specs.PlainWords.{lineWidth, refusalLine, faultLine}
+use Rattle.refusal_text.specs.RefusalText.{lineWidth, refusalLine, faultLine}
 use Rattle.list_bytes.specs.ListBytes.{listOf}
 use Rattle.scan.specs.declared.Scanned.{Scanned}
 use Rattle.scan.specs.declared.Scanned.the-variants.{Numbers, Faulty}

@@ -63,7 +63,8 @@ fn put_checked(text: &mut [u8], words: &[u32], period: u32, timings: &[u32]) -> 
 // And against the bytes of a list.
 fn put_against(text: &mut [u8], bytes: &[u8], period: u32, timings: &[u32]) -> usize
     requires { ⌜ linePlaces ≤ length (now text) ⌝ }
-    ensures { λ r. ⌜ Put linePlaces (checkedLine (listOf (now (bytes .entry))) period (now (timings .entry))) (now (text .entry)) 0 (now (text .exit)) r ⌝ }
+    ensures { λ r. ⌜ Put linePlaces (checkedLine (listOf (now (bytes .entry))) period (now (timings .entry)))
+        (now (text .entry)) 0 (now (text .exit)) r ⌝ }
 {
     let mut words = [0u32; MAX_WORDS];
     let count = list_bytes::load(bytes, &mut words);

@@ -61,7 +61,12 @@ module _ {M : Type 1} (𝓤 : URA M) (H : Heap 𝓤) (A : Atoms 𝓤) (W : Given
   }
 
   abbrev pub function : Clauses 𝓤 (ofWords (plain (λ _. R)))
-  function κs a = record { ghost = Unit {0}; requires = λ g. fact 𝓤 (Asks (now (a .0)) (a .1 .0)); ensures = λ g r e. fact 𝓤 (Says (now (a .0)) (a .1 .0) r) }
+  function κs a = record {
+    ghost = Unit {0};
+    requires = λ g. fact 𝓤 (Asks (now (a .0)) (a .1 .0));
+    ensures = λ g r e. fact 𝓤 (Says (now (a .0))
+        (a .1 .0) r);
+  }
 
   -- the method's code meets the method's clauses where the function meets its own
   pub asked : (𝓣 : Tables 𝓤 H) (f : Name) → Triple 𝓤 (𝓣 .C f) (Promise 𝓤 H A (ofWords (plain (λ _. R))) function)

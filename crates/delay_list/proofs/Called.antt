@@ -55,14 +55,16 @@ module _ {M : Type 1} (𝓤 : URA M) (H : Heap 𝓤) (A : Atoms 𝓤) (T : Ended
 
 module _ {M : Type 1} {𝓤 : URA M} {H : Heap 𝓤} {A : Atoms 𝓤} {K : Type 0} {W : Given 𝓤 H A} {Γ : List (Item 𝓤)} {E : Env}
     {C : Calls 𝓤 H} {Λ : Loops 𝓤 H} {q : Post 𝓤 H} {f : Name} {xs : List Operand} {d : Place} {rest : Body} where
-  pub asks : K → FmC 𝓤 H (W .laws) C → (T : Ended) (c : Clauses 𝓤 T) → Triple 𝓤 (C f) (Promise 𝓤 H A T c) → (y : Promise 𝓤 H A T c .Ghost)
+  pub asks : K → FmC 𝓤 H (W .laws) C → (T : Ended) (c : Clauses 𝓤 T) → Triple 𝓤 (C f) (Promise 𝓤 H A T c)
+      → (y : Promise 𝓤 H A T c .Ghost)
       → (value : Result 𝓤 H A T c y .Denot → Val) → Tells (Result 𝓤 H A T c y) (Is (Result 𝓤 H A T c y)) (λ r. value r ∷ [])
       → (Says : Result 𝓤 H A T c y .Denot → Last 𝓤 H A T c y → Type 0)
       → ((r : Result 𝓤 H A T c y .Denot) (ws : Last 𝓤 H A T c y) → ent 𝓤 (ensures 𝓤 H A T c y r ws) (fact 𝓤 (Says r ws)))
       → ent 𝓤 (emp 𝓤) (requires 𝓤 H A T c y)
       → ((P : SProp 𝓤) → Opds K W (raw P ∷ Γ) E xs (Promise 𝓤 H A T c .args y))
       → ((r : Result 𝓤 H A T c y .Denot) (ws : Last 𝓤 H A T c y) → Says r ws → Is (Result 𝓤 H A T c y) r (value r ∷ [])
-      → Seq K W (‵ (Result 𝓤 H A T c y .own r (value r ∷ [])) ∷ raw (tokens 𝓤 H A T c y) ∷ ‵ (last 𝓤 H A T c y ws) ∷ Γ) (lands C Λ E d (value r) rest q))
+      → Seq K W (‵ (Result 𝓤 H A T c y .own r (value r ∷ [])) ∷ raw (tokens 𝓤 H A T c y) ∷ ‵ (last 𝓤 H A T c y ws) ∷ Γ)
+      (lands C Λ E d (value r) rest q))
       → Seq K W (raw (tokens 𝓤 H A T c y) ∷ ‵ (arguments 𝓤 H A T c y) ∷ Γ) (runs C Λ E (seq (call f xs d) rest) q)
   asks t fm T c known y value tells Says says met os k =
       let R = Result 𝓤 H A T c y in
@@ -75,5 +77,6 @@ module _ {M : Type 1} {𝓤 : URA M} {H : Heap 𝓤} {A : Atoms 𝓤} {K : Type 
       pick t (λ ws. split t $ move t (1 ∷ []) $ use1 W (raw (fact 𝓤 (Says r ws))) (says r ws) $ heard t (Says r ws) (λ e.
       move t (1 ∷ []) $ split t $ move t (1 ∷ []) $ peeks t R (Is R) (shows 𝓤 H A R) r (u ∷ []) (λ is.
       let told = tells r (u ∷ []) is in
-      subst (λ (us : List Val). Seq K W (‵ (R .own r us) ∷ raw (tokens 𝓤 H A T c y) ∷ ‵ (last 𝓤 H A T c y ws) ∷ Γ) (lands C Λ E d (only us) rest q)) (sym told)
+      subst (λ (us : List Val). Seq K W (‵ (R .own r us) ∷ raw (tokens 𝓤 H A T c y) ∷ ‵ (last 𝓤 H A T c y ws) ∷ Γ)
+      (lands C Λ E d (only us) rest q)) (sym told)
       (k r ws e (subst (Is R r) told is)))))))

@@ -1,3 +1,4 @@
+-- The laws, which other crates may cite too.
 pub mod Held
 pub mod Asked
 pub mod Asking

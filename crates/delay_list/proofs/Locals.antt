@@ -137,7 +137,8 @@ module _ {M : Type 1} (𝓤 : URA M) (H : Heap 𝓤) (A : Atoms 𝓤) (W : Given
   more τ b ks vs Γ Δ h = under (cell τ b vs) (cell τ b (marked ks vs)) (‵ (fdies τ b) ∷ Γ) (‵ (fdies τ b) ∷ Δ) (marked-cell τ b ks vs)
       (under (‵ (fdies τ b)) (‵ (fdies τ b)) Γ Δ (id⊢ 𝓤 _) h)
 
-  clear : (E : Env) (ks : List Bool) (vs : List (Option Val)) (Γ Δ : List (Item 𝓤)) → all Γ ⊢ all Δ → all (held E vs Γ) ⊢ all (held E (marked ks vs) Δ)
+  clear : (E : Env) (ks : List Bool) (vs : List (Option Val)) (Γ Δ : List (Item 𝓤)) → all Γ ⊢ all Δ
+      → all (held E vs Γ) ⊢ all (held E (marked ks vs) Δ)
   clear [] ks vs Γ Δ h = h
   clear ((τ, b) ∷ E) [] vs Γ Δ h = clear E [] (tail vs) _ _ (more τ b [] vs Γ Δ h)
   clear ((τ, b) ∷ E) (k ∷ ks) [] Γ Δ h = clear E [] [] _ _ (more τ b (k ∷ ks) [] Γ Δ h)
@@ -175,14 +176,16 @@ module _ {M : Type 1} (𝓤 : URA M) (H : Heap 𝓤) (A : Atoms 𝓤) where
   nth-held [] vs k Γ = refl
   nth-held ((τ, b) ∷ E) vs k Γ = nth-held E (tail vs) (suc (suc k)) (cell τ b vs ∷ ‵ (fdies τ b) ∷ Γ)
 
-  put-held : (E : Env) (vs : List (Option Val)) (k : ℕ) (j : Item 𝓤) (Γ : List (Item 𝓤)) → put 𝓤 H A (below E k) j (held E vs Γ) ≡ held E vs (put 𝓤 H A k j Γ)
+  put-held : (E : Env) (vs : List (Option Val)) (k : ℕ) (j : Item 𝓤) (Γ : List (Item 𝓤))
+      → put 𝓤 H A (below E k) j (held E vs Γ) ≡ held E vs (put 𝓤 H A k j Γ)
   put-held [] vs k j Γ = refl
   put-held ((τ, b) ∷ E) vs k j Γ = put-held E (tail vs) (suc (suc k)) j (cell τ b vs ∷ ‵ (fdies τ b) ∷ Γ)
 
 -- ---- the laws of a walk
 
 module _ {M : Type 1} {𝓤 : URA M} {H : Heap 𝓤} {A : Atoms 𝓤} {K : Type 0} {W : Given 𝓤 H A} where
-  allocates : K → {Γ : List (Item 𝓤)} {Kt : Env → Goal 𝓤 H} (ls : List Local) → ((bs : Blocks ls) → Seq K W (held (env ls bs) [] Γ) (Kt (env ls bs)))
+  allocates : K → {Γ : List (Item 𝓤)} {Kt : Env → Goal 𝓤 H} (ls : List Local)
+      → ((bs : Blocks ls) → Seq K W (held (env ls bs) [] Γ) (Kt (env ls bs)))
       → Seq K W Γ (allocs ls Kt)
   allocates t [] k = alloc0 t $ k tt
   allocates t {Kt = Kt} (local τ h ∷ ls) k = alloc1 t (λ b. allocates t {Kt = λ E. Kt ((τ, b) ∷ E)} ls (λ bs. k (b, bs)))
@@ -195,7 +198,8 @@ module _ {M : Type 1} {𝓤 : URA M} {H : Heap 𝓤} {A : Atoms 𝓤} {K : Type 
       let E = env ls (bs .1) in
       let Δ : List (Item 𝓤) = ‵ (froom τ (bs .0) 0) ∷ ‵ (fdies τ (bs .0)) ∷ Γ in
       pass1 t (subst (λ (Z : List (Item 𝓤)). Writes K W (held E [] Δ) τ (bs .0) 0 v Z) (put-held 𝓤 H A E [] 0 (‵ (fat fullShare τ (bs .0) 0 v)) Δ)
-      (init t (below E 0) (nth-held 𝓤 H A E [] 0 Δ) (fit .0))) $ fills t ls (bs .1) vs (‵ (fat fullShare τ (bs .0) 0 v) ∷ ‵ (fdies τ (bs .0)) ∷ Γ) (fit .1) s
+      (init t (below E 0) (nth-held 𝓤 H A E [] 0 Δ) (fit .0))) $
+      fills t ls (bs .1) vs (‵ (fat fullShare τ (bs .0) 0 v) ∷ ‵ (fdies τ (bs .0)) ∷ Γ) (fit .1) s
 
   passed : K → (ls : List Local) (bs : Blocks ls) (vs : List Val) (Γ : List (Item 𝓤)) {g : Goal 𝓤 H} → Passing ls vs
       → Seq K W (held (env ls bs) (none ∷ somes vs) Γ) g → Seq K W (held (env ls bs) [] Γ) (params′ (env ls bs) vs g)
@@ -222,7 +226,8 @@ module _ {M : Type 1} {𝓤 : URA M} {H : Heap 𝓤} {A : Atoms 𝓤} {K : Type 
 
       module _ {C : Calls 𝓤 H} {Λ : Loops 𝓤 H} {q : Post 𝓤 H} {v : Val} where
         -- an empty local is assigned to
-        pub sets : K → (s : ℕ) {rv : RValue} {rest : Body} → Rv K W Γ E rv v → nth 𝓤 H A (s + spot E i) Γ ≡ empty E i → Holds (hasTy (tyOf E i) v) × WT v
+        pub sets : K → (s : ℕ) {rv : RValue} {rest : Body} → Rv K W Γ E rv v → nth 𝓤 H A (s + spot E i) Γ ≡ empty E i
+            → Holds (hasTy (tyOf E i) v) × WT v
             → Step K W (put 𝓤 H A (s + spot E i) (full E i v) Γ) (runs C Λ E rest q) Γ (runs C Λ E (seq (assign (place i []) rv) rest) q)
         sets t s r e wt = assigns t r (from t (stop t)) (init t (s + spot E i) e wt)
 
@@ -232,7 +237,8 @@ module _ {M : Type 1} {𝓤 : URA M} {H : Heap 𝓤} {A : Atoms 𝓤} {K : Type 
         lands-in t s e wt = land t (from t (stop t)) (init t (s + spot E i) e wt)
 
     -- what lies in an entry's cell has the cell's type
-    holds : K → {G : Goal 𝓤 H} (n : ℕ) {q : Share} {τ : Ty} {b : ℕ} {v : Val} → nth 𝓤 H A n Γ ≡ ‵ (fat q τ b 0 v) → (Holds (hasTy τ v) × WT v → Seq K W Γ G)
+    holds : K → {G : Goal 𝓤 H} (n : ℕ) {q : Share} {τ : Ty} {b : ℕ} {v : Val} → nth 𝓤 H A n Γ ≡ ‵ (fat q τ b 0 v)
+        → (Holds (hasTy τ v) × WT v → Seq K W Γ G)
         → Seq K W Γ G
     holds t {G} n {q} {τ} {b} {v} e k = record {
       prf = via 𝓤 (sep 𝓤 (H .at q τ b 0 v) (⋆ 𝓤 H A (del 𝓤 H A n Γ)))
@@ -240,19 +246,22 @@ module _ {M : Type 1} {𝓤 : URA M} {H : Heap 𝓤} {A : Atoms 𝓤} {K : Type 
           (via 𝓤 (sep 𝓤 (guard 𝓤 (Holds (hasTy τ v) × WT v) (H .at q τ b 0 v)) (⋆ 𝓤 H A (del 𝓤 H A n Γ)))
           (monoL 𝓤 (⋆ 𝓤 H A (del 𝓤 H A n Γ)) (W .laws .at-wt q τ b 0 v))
           (ex∗ 𝓤 (λ (_ : Holds (hasTy τ v) × WT v). H .at q τ b 0 v) (⋆ 𝓤 H A (del 𝓤 H A n Γ)) (λ wt.
-          via 𝓤 (⋆ 𝓤 H A Γ) (subst (λ (j : Item 𝓤). ent 𝓤 (sep 𝓤 (mean 𝓤 H A j) (⋆ 𝓤 H A (del 𝓤 H A n Γ))) (⋆ 𝓤 H A Γ)) e (unpull 𝓤 H A n Γ)) (k wt .prf))));
+          via 𝓤 (⋆ 𝓤 H A Γ) (subst (λ (j : Item 𝓤). ent 𝓤 (sep 𝓤 (mean 𝓤 H A j) (⋆ 𝓤 H A (del 𝓤 H A n Γ)))
+          (⋆ 𝓤 H A Γ)) e (unpull 𝓤 H A n Γ)) (k wt .prf))));
     }
 
     -- local j is copied over local i, of the same type, at the end of a turn
     pub copies-last : K → (s : ℕ) {E : Env} {C : Calls 𝓤 H} {Λ : Loops 𝓤 H} {q : Post 𝓤 H} {i j : ℕ} {v v₀ : Val}
         → nth 𝓤 H A (s + spot E j) Γ ≡ full E j v → nth 𝓤 H A (s + spot E i) Γ ≡ full E i v₀
         → tyOf E j ≡ tyOf E i
-        → Step K W (put 𝓤 H A (s + spot E i) (full E i v) Γ) (prop (post 𝓤 H q next)) Γ (runs C Λ E (assign (place i []) (rvOpd (copy (place j [])))) q)
+        → Step K W (put 𝓤 H A (s + spot E i) (full E i v) Γ) (prop (post 𝓤 H q next)) Γ (runs C Λ E (assign (place i [])
+        (rvOpd (copy (place j [])))) q)
     copies-last t s {E} {i = i} {j} {v} e e₀ same = step (λ h. holds t (s + spot E j) e (λ wt.
         assigns-last t (of-opd t (val t s e)) (from t (stop t)) (store t (s + spot E i) e₀ (subst (λ (τ : Ty). Holds (hasTy τ v) × WT v) same wt)) $ h))
 
     -- the test of a loop: the turn goes on, or the loop is left
-    pub tests : K → {C : Calls 𝓤 H} {Λ : Loops 𝓤 H} {E : Env} {q : Post 𝓤 H} {c : Operand} {n : ℕ} {b : Body} {y : Bool} → Opd K W Γ E c (vbool y)
+    pub tests : K → {C : Calls 𝓤 H} {Λ : Loops 𝓤 H} {E : Env} {q : Post 𝓤 H} {c : Operand} {n : ℕ} {b : Body} {y : Bool}
+        → Opd K W Γ E c (vbool y)
         → (Holds y → Seq K W Γ (runs C Λ E b q)) → (Holds (not y) → Seq K W Γ (prop (post 𝓤 H q (exits n))))
         → Seq K W Γ (runs C Λ E (seq (cond c skip (exit n)) b) q)
     tests t o goes ends = first t $ branches t o (λ h. skips t $ record { prf = goes h .prf }) (λ h. jumps t $ record { prf = ends h .prf })
@@ -260,7 +269,8 @@ module _ {M : Type 1} {𝓤 : URA M} {H : Heap 𝓤} {A : Atoms 𝓤} {K : Type 
     -- ---- all locals at once
     -- the s entries in front of the locals go behind them
     pub fronts : K → {G : Goal 𝓤 H} (E : Env) (s : ℕ) → Step K W (sel 𝓤 H A (replicate (2 * length E) s) Γ) G Γ G
-    fronts t E s = step (λ h. by t (via 𝓤 (⋆ 𝓤 H A (sel 𝓤 H A (replicate (2 * length E) s) Γ)) (sel⊢ 𝓤 H A (replicate (2 * length E) s) Γ) (h .prf)))
+    fronts t E s = step (λ h. by t (via 𝓤 (⋆ 𝓤 H A (sel 𝓤 H A (replicate (2 * length E) s) Γ))
+        (sel⊢ 𝓤 H A (replicate (2 * length E) s) Γ) (h .prf)))
 
     pub clears : K → {G : Goal 𝓤 H} (E : Env) (ks : List Bool) (vs : List (Option Val)) → Γ ≡ held E vs (behind E Γ)
         → Step K W (held E (marked ks vs) (behind E Γ)) G Γ G

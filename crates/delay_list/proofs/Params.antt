@@ -59,7 +59,8 @@ module _ {n : ℕ} where
   tellings [] κs = tt
   tellings (p ∷ ps) κs = (p .tells κs, tellings ps κs)
 
-  goings : {M : Type 1} (𝓤 : URA M) (H : Heap 𝓤) (A : Atoms 𝓤) (W : Given 𝓤 H A) (ps : List (Param n)) → AllGo 𝓤 H A W n (slots ps) (kepts ps) (stays ps)
+  goings : {M : Type 1} (𝓤 : URA M) (H : Heap 𝓤) (A : Atoms 𝓤) (W : Given 𝓤 H A) (ps : List (Param n))
+      → AllGo 𝓤 H A W n (slots ps) (kepts ps) (stays ps)
   goings 𝓤 H A W [] = tt
   goings 𝓤 H A W (p ∷ ps) = (p .goes 𝓤 H A W, goings 𝓤 H A W ps)
 
@@ -112,7 +113,8 @@ module _ {M : Type 1} (𝓤 : URA M) (H : Heap 𝓤) (A : Atoms 𝓤) (n : ℕ) 
   pub meets : (W : Given 𝓤 H A) (𝓣 : Tables 𝓤 H) (f : Fn)
       → ((κs : Lfts n) (qs : Shares n) (bounds : AllOutlive n [] κs) (a : Args (T .signature) κs) (g : c κs a .ghost)
       → Are (typesAt (slots ps) κs) (Ises (typesAt (slots ps) κs)) a (passing κs a)
-      → Seq (Go {0}) W (Start κs qs bounds a g) (prop (WpFn 𝓤 H (𝓣 .C) (𝓣 .Λ) f (flat (typesAt (slots ps) κs) (passing κs a)) (Post κs qs bounds a g))))
+      → Seq (Go {0}) W (Start κs qs bounds a g) (prop (WpFn 𝓤 H (𝓣 .C) (𝓣 .Λ) f (flat (typesAt (slots ps) κs) (passing κs a))
+      (Post κs qs bounds a g))))
       → Triple 𝓤 (WpFn 𝓤 H (𝓣 .C) (𝓣 .Λ) f) (Promise 𝓤 H A T c)
   meets W 𝓣 f walk =
       walk-meets 𝓤 H A T (stays ps) W (goings 𝓤 H A W ps) c (WpFn 𝓤 H (𝓣 .C) (𝓣 .Λ) f) (WpFn-mono 𝓤 H (W .laws) 𝓣 f)

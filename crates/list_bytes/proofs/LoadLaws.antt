@@ -70,7 +70,8 @@ module _ (bs : List ℕ) where
     loaded-size = rw loaded-front (l .size)
 
   -- the bytes of the words are the bytes
-  pub list-back : length bs ≤ maxBytes → length bs % 4 ≡ 0 → ((i : ℕ) → getD bs i 0 < 2 ^ byteBits) → toBytes (listOf bs) (length (listOf bs)) ≡ bs
+  pub list-back : length bs ≤ maxBytes → length bs % 4 ≡ 0 → ((i : ℕ) → getD bs i 0 < 2 ^ byteBits)
+      → toBytes (listOf bs) (length (listOf bs)) ≡ bs
   list-back h even small =
       let k : ℕ = length bs / 4 in
       rw (list-even h even, words-size bs k) (bytes-back bs k (omega arith) small)

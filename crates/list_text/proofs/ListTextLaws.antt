@@ -29,7 +29,7 @@ use Rattle.list_format.proofs.ReadBack.{numbers-length}
 use Rattle.list_format.proofs.WriteBack.{given-in, words-length}
 use Rattle.text_pieces.specs.Pieces.{Put}
 use Rattle.text_pieces.proofs.PutLaws.{put-within}
-use Rattle.refusal_text.specs.PlainWords.{lineWidth, refusalLine, faultLine}
+use Rattle.refusal_text.specs.RefusalText.{lineWidth, refusalLine, faultLine}
 use Rattle.list_bytes.specs.ListBytes.{maxWords, maxBytes}
 use Rattle.scan.specs.declared.Scanned.{Scanned}
 use Rattle.scan.specs.declared.Scanned.the-variants.{Numbers, Faulty}
@@ -46,7 +46,8 @@ module _ {ws now : List ℕ} {r : Reading} (a : ReadAs ws (zeros (4 * maxPairs))
   reply : readReply r ≡ replyOf (reading ws (4 * maxPairs))
   reply = rw (zeros-size (4 * maxPairs)) at (a .reply)
 
-  pub show-refused : {number place next : ℕ} {text text′ : List ℕ} → r ≡ Refused number place → Put lineWidth (refusalLine number place) text 0 text′ next
+  pub show-refused : {number place next : ℕ} {text text′ : List ℕ} → r ≡ Refused number place
+      → Put lineWidth (refusalLine number place) text 0 text′ next
       → Put shownPlaces (told refusalLine shownDone (reading ws (4 * maxPairs))) text 0 text′ next
   unfolding readReply
   show-refused e put = rw (told-refusal refusalLine shownDone (reading ws (4 * maxPairs)) (rw e at reply)) (put-within put (omega (arith, put .most)))
@@ -126,7 +127,8 @@ countOf (Bytes count) = count
 countOf (Fault count) = count
 
 -- that many bytes can be lent
-pub made-put : {p : Product} {out out′ : List ℕ} {r : Made} {count : ℕ} → MadeAs p out out′ r → countOf r ≡ count → Put maxBytes (storedFor p) out 0 out′ count
+pub made-put : {p : Product} {out out′ : List ℕ} {r : Made} {count : ℕ} → MadeAs p out out′ r → countOf r ≡ count
+    → Put maxBytes (storedFor p) out 0 out′ count
 unfolding returnedFor storedFor
 made-put {p} {out} {out′} {r} {count} a e = rw (size p ∙ ap countOf (sym (a .answer)) ∙ e) at (a .stored)
   where
@@ -138,7 +140,8 @@ module _ {n : ℕ} {xs now : List ℕ} {r : Writing} (a : WrittenAs n xs (zeros 
   answer : writeReply r ≡ replyOf (writing n xs maxWords)
   answer = rw (zeros-size maxWords) at (a .reply)
 
-  pub make-refused : {number place next : ℕ} {out out′ : List ℕ} → r ≡ NotWritten number place → Put lineWidth (refusalLine number place) out 0 out′ next
+  pub make-refused : {number place next : ℕ} {out out′ : List ℕ} → r ≡ NotWritten number place
+      → Put lineWidth (refusalLine number place) out 0 out′ next
       → MadeAs (madeFrom n xs) out out′ (Fault next)
   unfolding writeReply
   make-refused e put = rw (told-refusal madeRefused madeDone (writing n xs maxWords) (rw e at answer)) (made-fault put)
@@ -180,7 +183,8 @@ module _ {n : ℕ} {xs now : List ℕ} {r : Writing} (a : WrittenAs n xs (zeros 
     pub written-size : count ≡ length (take count now)
     written-size = rw words-are (sym word-size)
 
-    pub make-written : {next : ℕ} {out out′ : List ℕ} → Put (4 * length (take count now)) (toBytes (take count now) (length (take count now))) out 0 out′ next
+    pub make-written : {next : ℕ} {out out′ : List ℕ} → Put (4 * length (take count now))
+        (toBytes (take count now) (length (take count now))) out 0 out′ next
         → MadeAs (madeFrom n xs) out out′ (Bytes next)
     unfolding told
     make-written put =

@@ -28,7 +28,7 @@ use Rattle.scan.specs.Scan.{maxNumbers, maxValue, textBytes, start, numberEnded
 use Rattle.scan.specs.Scan.{kept, after, ended, last, scannedNumbers, scanned, storedOf}
 use Rattle.scan.proofs.CaseLaws.{line-next, finish-some, blank-line, pair-line}
 use Rattle.scan.proofs.ReadsLaws.{Reads, reads-none, reads-then, at, reads-space, reads-newline}
-use Rattle.refusal_text.specs.PlainWords.{refusalLine}
+use Rattle.refusal_text.specs.RefusalText.{refusalLine}
 use Rattle.list_bytes.specs.ListBytes.{maxWords, maxBytes, listOf}
 use Rattle.list_bytes.proofs.LoadLaws.{list-back}
 use Rattle.list_text.specs.ListText.{fourLine, pairLine, textOf, shownDone, shownText, listBytes, madeOf, made}
@@ -42,7 +42,8 @@ four-reads : (line count a b c d : ℕ) → 0 < count → count + 4 ≤ maxNumbe
     → Reads (at true line count count) (fourLine a b c d) (a ∷ b ∷ c ∷ d ∷ []) (at true (line + 1) (count + 4) (count + 4))
 four-reads line count a b c d some room ha hb hc hd =
     let four : count + 1 + 1 + 1 + 1 ≡ count + 4 = omega arith in
-    let fit : 0 ≡ lineFault true count (count + 1 + 1 + 1 + 1) = pair-line count (count + 1 + 1 + 1 + 1) true refl (λ e. omega arith) (λ e. omega arith) four in
+    let fit : 0 ≡ lineFault true count (count + 1 + 1 + 1 + 1) = pair-line count (count + 1 + 1 + 1 + 1) true refl (λ e. omega arith)
+    (λ e. omega arith) four in
     rw four at
     (reads-then (reads-space true line count count a ha (omega arith))
     (reads-then (reads-space true line count (count + 1) b hb (omega arith))

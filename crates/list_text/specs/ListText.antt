@@ -14,7 +14,7 @@ use Rattle.text_pieces.specs.Pieces.{number, space, newline, numberWidth, Put}
 use Rattle.scan.specs.declared.Scanned.{Scanned}
 use Rattle.scan.specs.declared.Scanned.the-variants.{Numbers, Faulty}
 use Rattle.scan.specs.Scan.{scanned, storedOf}
-use Rattle.refusal_text.specs.PlainWords.{lineWidth, refusalLine, faultLine}
+use Rattle.refusal_text.specs.RefusalText.{lineWidth, refusalLine, faultLine}
 use Rattle.list_bytes.specs.ListBytes.{maxWords, maxBytes, listOf}
 use Rattle.list_text.specs.declared.Made.{Made}
 use Rattle.list_text.specs.declared.Made.the-variants.{Bytes, Fault}

@@ -4,7 +4,7 @@ ghost use Prim.Native.Nat.{_+_, _*_, _≤_};
 ghost use lib.ListN.{length};
 ghost use Rattle.text_pieces.specs.Pieces.{Put};
 ghost use Rattle.refusals.specs.Reply.{told};
-ghost use Rattle.refusal_text.specs.PlainWords.{refusalLine};
+ghost use Rattle.refusal_text.specs.RefusalText.{refusalLine};
 ghost use Rattle.list_format.specs.Read.{reading};
 ghost use Rattle.list_bytes.specs.ListBytes.{maxBytes};
 ghost use Rattle.timing.specs.Limits.{maxPairs};

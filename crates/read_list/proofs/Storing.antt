@@ -45,7 +45,8 @@ module _ {M : Type 1} {𝓤 : URA M} {H : Heap 𝓤} {A : Atoms 𝓤} {K : Type 
     {C : Calls 𝓤 H} {Λ : Loops 𝓤 H} {q : Post 𝓤 H} {f : Name} {xs : List Operand} {to : Place} {rest : Body} where
   pub stores : K → FmC 𝓤 H (W .laws) C → (memᴹ : Memory → SProp 𝓤) (run : Routine → Fun 𝓤)
       → Triple 𝓤 (C f) (Promise 𝓤 H A store.ended (store.clauses 𝓤 H A memᴹ run))
-      → (b o n : ℕ) → Room u32 n → (r : Next) (k : ℕ) → k < 2 ^ 64 → (ys : List ℕ) → length ys ≡ n → (isOne r ≡ true → 4 * k + 4 ≤ length ys)
+      → (b o n : ℕ) → Room u32 n → (r : Next) (k : ℕ) → k < 2 ^ 64 → (ys : List ℕ) → length ys ≡ n
+      → (isOne r ≡ true → 4 * k + 4 ≤ length ys)
       → ((P : SProp 𝓤) (i : Item 𝓤) → Opds K W (raw P ∷ i ∷ Γ) E xs (nextVal r ∷ vint w64 k ∷ sliceVal (b, o) n ∷ []))
       → ((more : Bool) (zs : List ℕ) → (more ≡ isOne r) × (zs ≡ stored r k ys) → length zs ≡ n
       → Seq K W (‵ (cells (mem u32) zs b o) ∷ Γ) (lands C Λ E to (vbool more) rest q))
@@ -53,12 +54,22 @@ module _ {M : Type 1} {𝓤 : URA M} {H : Heap 𝓤} {A : Atoms 𝓤} {K : Type 
   stores t fm memᴹ run known b o n room r k fits ys l ok os go =
       lent u32 b o t tt n ys room l (λ ν δ.
       -- [the buffer, lent; its token; the lender's part; what is stored; ..]
-      nothing t $ move t (1 ∷ 0 ∷ []) $ fjoin t $ owned t usize (Is usize) (uint-makes 𝓤 H A W w64) k _ (refl, fits) $ fjoin t $ move t (3 ∷ 0 ∷ []) $ fjoin t $
+      nothing t $ move t (1 ∷ 0 ∷ []) $ fjoin t $ owned t usize (Is usize) (uint-makes 𝓤 H A W w64) k _ (refl, fits) $ fjoin t $
+      move t (3 ∷ 0 ∷ []) $ fjoin t $
       move t (1 ∷ []) $ nothing t $ move t (1 ∷ 0 ∷ []) $ join t $ use1 W (token 𝓤 A (ν ∷ []) fullShare) (id⊢ 𝓤 _) $
-      asks t fm store.ended (store.clauses 𝓤 H A memᴹ run) known
-      (((ν ∷ [], tt), (fullShare, tt), tt, (r, (k, (at u32 b o δ ys, tt))), (nextVal r ∷ [], (vint w64 k ∷ [], (sliceVal (b, o) n ∷ [], tt)))), tt) vbool
+      asks t fm store.ended (store.clauses 𝓤 H A memᴹ run) known (
+        (
+          (ν ∷ [], tt),
+          (fullShare, tt),
+          tt,
+          (r, (k, (at u32 b o δ ys, tt))),
+          (nextVal r ∷ [], (vint w64 k ∷ [], (sliceVal (b, o) n ∷ [], tt))),
+        ),
+        tt,
+      ) vbool
       bool-tells
-      (λ more ws. (more ≡ isOne r) × (ws .1 .1 .0 ≡ stored r k ys)) (λ more ws. id⊢ 𝓤 _) (factI 𝓤 _ (emp 𝓤) ok) (λ P. os P _) (λ more ws kept is.
+      (λ more ws. (more ≡ isOne r) × (ws .1 .1 .0 ≡ stored r k ys)) (λ more ws. id⊢ 𝓤 _) (factI 𝓤 _ (emp 𝓤) ok) (λ P. os P _)
+      (λ more ws kept is.
       move t (2 ∷ []) $ fsplit t $ drop t $ fsplit t $ drop t $ fsplit t $ fsplit t $ move t (1 ∷ []) $ feqL t (λ same.
       -- [the last list; true; the result; the buffer's token; the lender's part; ..]
       move t (3 ∷ []) $ use1 W (‵ (flft (ν ∷ []) fullShare) ⊛ ‵ ftrue) (id⊢ 𝓤 _) $ split t $ move t (0 ∷ 5 ∷ 2 ∷ []) $

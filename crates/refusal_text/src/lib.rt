@@ -1,9 +1,9 @@
 // One line for a refusal, or for a text that cannot be read: what is wrong, in plain words.
-// The contracts cite `specs/PlainWords.antt`.
+// The contracts cite `specs/RefusalText.antt`.
 ghost use Prim.Native.Nat.{_+_, _≤_};
 ghost use lib.ListN.{length};
 ghost use Rattle.text_pieces.specs.Pieces.{Put};
-ghost use Rattle.refusal_text.specs.PlainWords.{wordsWidth, lineWidth, meaning, trouble, refusalLine, faultLine};
+ghost use Rattle.refusal_text.specs.RefusalText.{wordsWidth, lineWidth, meaning, trouble, refusalLine, faultLine};
 use text_pieces::REFUSED_WIDTH;
 use text_pieces::put_bytes;
 use text_pieces::put_named;

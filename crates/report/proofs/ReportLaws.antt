@@ -33,7 +33,8 @@ module _ {ws answer scratch : List ℕ} {r : Planning} (a : PlanAs ws (zeros (2 
   plan-reply = rw (zeros-size (2 * maxRegisters), zeros-size maxScratch) at (a .reply)
 
   -- the text of a refusal
-  pub text-refused : {number place next : ℕ} {was now : List ℕ} → r ≡ Refused number place → Put refusedWidth (refusedLine number place) was 0 now next
+  pub text-refused : {number place next : ℕ} {was now : List ℕ} → r ≡ Refused number place
+      → Put refusedWidth (refusedLine number place) was 0 now next
       → Put textPlaces (told refusedLine (planLines (registers ws)) (planOf ws)) was 0 now next
   unfolding planReply
   text-refused e put =

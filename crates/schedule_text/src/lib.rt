@@ -1,5 +1,5 @@
 // The text of a free schedule, and of a split at a period and an offset, for the bytes of a delay list.
-// The contracts cite `specs/JobText.antt`.
+// The contracts cite `specs/ScheduleText.antt`.
 ghost use Prim.Native.Nat.{_+_, _*_, _≤_};
 ghost use lib.ListN.{length};
 ghost use mathlib.Core.List.{_++_};
@@ -7,11 +7,11 @@ ghost use Rattle.timing.specs.Limits.{maxRegisters, maxScratch};
 ghost use Rattle.text_pieces.specs.Pieces.{Put, letters, number, space, newline};
 ghost use Rattle.refusals.specs.Reply.{told};
 ghost use Rattle.list_format.specs.Lists.{registers};
-ghost use Rattle.refusal_text.specs.PlainWords.{refusalLine};
+ghost use Rattle.refusal_text.specs.RefusalText.{refusalLine};
 ghost use Rattle.free_schedule.specs.FreeCall.{freeing};
 ghost use Rattle.split.specs.Splitting.{splitting};
-ghost use Rattle.schedule_text.specs.JobText.{timingWidth, freeWidth, splitWidth, jobPlaces, timingLines, freeLine, freeDone};
-ghost use Rattle.schedule_text.specs.JobText.{freeText, splitDone, splitText};
+ghost use Rattle.schedule_text.specs.ScheduleText.{timingWidth, freeWidth, splitWidth, schedulePlaces, timingLines, freeLine, freeDone};
+ghost use Rattle.schedule_text.specs.ScheduleText.{freeText, splitDone, splitText};
 use free_schedule::FreeAnswer;
 use list_bytes::MAX_WORDS;
 use refusal_text::LINE_WIDTH;
@@ -69,9 +69,9 @@ fn put_free(text: &mut [u8], common: u32, free: u32, timings: &[u32], n: usize) 
 
 // The free schedule for a run of words.
 fn put_free_words(text: &mut [u8], words: &[u32]) -> usize
-    requires { ⌜ jobPlaces ≤ length (now text) ⌝ }
+    requires { ⌜ schedulePlaces ≤ length (now text) ⌝ }
     ensures { λ z. ⌜
-        Put jobPlaces (told refusalLine (freeDone (registers (now (words .entry)))) (freeing (now (words .entry)) maxRegisters))
+        Put schedulePlaces (told refusalLine (freeDone (registers (now (words .entry)))) (freeing (now (words .entry)) maxRegisters))
         (now (text .entry)) 0 (now (text .exit)) z
         ⌝ }
 {
@@ -88,7 +88,7 @@ fn put_free_words(text: &mut [u8], words: &[u32]) -> usize
 // The free schedule of the list whose bytes are given, as text in the first places of `text`; later places keep their contents.
 // The count of its bytes is returned.
 pub fn free_text(bytes: &[u8], text: &mut [u8; TEXT_PLACES]) -> usize
-    ensures { λ z. ⌜ Put jobPlaces (freeText (now (bytes .entry))) (now (text .entry)) 0 (now (text .exit)) z ⌝ }
+    ensures { λ z. ⌜ Put schedulePlaces (freeText (now (bytes .entry))) (now (text .entry)) 0 (now (text .exit)) z ⌝ }
 {
     let mut words = [0u32; MAX_WORDS];
     let count = list_bytes::load(bytes, &mut words);
@@ -109,9 +109,9 @@ fn put_split(text: &mut [u8], timings: &[u32], n: usize) -> usize
 
 // The split for a run of words.
 fn put_split_words(text: &mut [u8], words: &[u32], period: u32, offset: u32) -> usize
-    requires { ⌜ jobPlaces ≤ length (now text) ⌝ }
+    requires { ⌜ schedulePlaces ≤ length (now text) ⌝ }
     ensures { λ z. ⌜
-        Put jobPlaces
+        Put schedulePlaces
         (told refusalLine (splitDone (registers (now (words .entry)))) (splitting (now (words .entry)) period offset maxRegisters maxScratch))
         (now (text .entry)) 0 (now (text .exit)) z
         ⌝ }
@@ -131,7 +131,7 @@ fn put_split_words(text: &mut [u8], words: &[u32], period: u32, offset: u32) -> 
 // The first split at a period and an offset of the list whose bytes are given, as text in the first places of `text`; later places
 // keep their contents. The count of its bytes is returned.
 pub fn split_text(bytes: &[u8], period: u32, offset: u32, text: &mut [u8; TEXT_PLACES]) -> usize
-    ensures { λ z. ⌜ Put jobPlaces (splitText (now (bytes .entry)) period offset) (now (text .entry)) 0 (now (text .exit)) z ⌝ }
+    ensures { λ z. ⌜ Put schedulePlaces (splitText (now (bytes .entry)) period offset) (now (text .entry)) 0 (now (text .exit)) z ⌝ }
 {
     let mut words = [0u32; MAX_WORDS];
     let count = list_bytes::load(bytes, &mut words);

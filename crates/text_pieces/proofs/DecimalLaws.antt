@@ -19,7 +19,8 @@ in-enough (suc k) zero n h l = absurd (omega arith)
 in-enough (suc k) (suc j) n h l = go (ltb n 10) refl (in-enough k j (n / 10))
   where
     go : (b : Bool) → ltb n 10 ≡ b → (n / 10 < k → n / 10 < j → decimalIn k (n / 10) ≡ decimalIn j (n / 10))
-        → cond b (digit n ∷ []) (decimalIn k (n / 10) ++ (digit (n % 10) ∷ [])) ≡ cond b (digit n ∷ []) (decimalIn j (n / 10) ++ (digit (n % 10) ∷ []))
+        → cond b (digit n ∷ []) (decimalIn k (n / 10) ++ (digit (n % 10) ∷ [])) ≡ cond b (digit n ∷ [])
+        (decimalIn j (n / 10) ++ (digit (n % 10) ∷ []))
     go true e same = refl
     go false e same = rw (same (omega (arith, ltb-false n 10 e)) (omega (arith, ltb-false n 10 e)))
 
@@ -40,7 +41,8 @@ in-few zero k n h = omega arith
 in-few (suc j) zero n h = rw (lt-ltb n 10 (rw pow-succ' at h)) (omega arith)
 in-few (suc j) (suc k) n h = go (ltb n 10) (in-few j k (n / 10) (div-lt-iff-lt-mul (omega arith) .1 (rw pow-suc at h)))
   where
-    go : (b : Bool) → length (decimalIn j (n / 10)) ≤ suc k → length (cond b (digit n ∷ []) (decimalIn j (n / 10) ++ (digit (n % 10) ∷ []))) ≤ suc (suc k)
+    go : (b : Bool) → length (decimalIn j (n / 10)) ≤ suc k → length (cond b (digit n ∷ [])
+        (decimalIn j (n / 10) ++ (digit (n % 10) ∷ []))) ≤ suc (suc k)
     go true l = omega arith
     go false l = rw length-append (omega arith)
 

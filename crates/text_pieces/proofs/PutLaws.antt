@@ -54,7 +54,8 @@ module _ {w : ℕ} {p was now : List ℕ} {at next : ℕ} (a : Put w p was at no
   put-within h = record { most = h; room = a .room; after = a .after; is = a .is }
 
 -- the piece that f has for y serves for every x that is y
-pub put-as : {A : Type 0} (f : A → List ℕ) (v : ℕ) {x y : A} {w at next : ℕ} {was now : List ℕ} → x ≡ y → Put w (f y) was at now next → w ≤ v
+pub put-as : {A : Type 0} (f : A → List ℕ) (v : ℕ) {x y : A} {w at next : ℕ} {was now : List ℕ} → x ≡ y → Put w (f y) was at now next
+    → w ≤ v
     → Put v (f x) was at now next
 put-as f v e put h = rw e (put-within put (omega (arith, put .most)))
 

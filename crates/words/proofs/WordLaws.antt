@@ -54,5 +54,6 @@ total-suc [] i h = absurd (not-suc-le-zero h)
 total-suc (w ∷ ws) zero h = omega arith
 total-suc (w ∷ ws) (suc i) h = omega (arith, total-suc ws i (le-of-suc-le-suc h))
 
-pub sum-more : (ws : List ℕ) (i a : ℕ) → i < length ws → a ≡ wrappedSum (take i ws) → (a + getD ws i 0) % 2 ^ wordBits ≡ wrappedSum (take (i + 1) ws)
+pub sum-more : (ws : List ℕ) (i a : ℕ) → i < length ws → a ≡ wrappedSum (take i ws)
+    → (a + getD ws i 0) % 2 ^ wordBits ≡ wrappedSum (take (i + 1) ws)
 sum-more ws i a h e = rw (e, add-one, total-suc ws i h, mod-add-mod)

@@ -23,8 +23,12 @@ loop-holds c = (omega arith, refl, refl)
 loop-again : tie.Need-loop-again Inv-loop μ-loop
 loop-again c =
     let l = c .before .loop in
-    let a = c .before .before .args in
-    (omega arith, simp length-set (l .inv .1), ap (λ (x : List ℕ). set x (l .i) (a .v)) (l .inv .2) ∙ fill-more (l .i) (a .v) (now (a .places)) (omega arith))
+    let a = c .before .before .args in (
+      omega arith,
+      simp length-set (l .inv .1),
+      ap (λ (x : List ℕ). set x (l .i) (a .v)) (l .inv .2)
+          ∙ fill-more (l .i) (a .v) (now (a .places)) (omega arith),
+    )
 
 returns : tie.Need-returns Inv-loop μ-loop
 returns c =
@@ -35,4 +39,5 @@ returns c =
 pub level-spec : {M : Type 1} → statement M
 level-spec =
     tie.close
-    (tie.spec Inv-loop μ-loop loop-holds (λ c. search needs) (λ c. omega arith) (λ c. search needs) (λ c. search needs) loop-again (λ c. search needs) returns)
+    (tie.spec Inv-loop μ-loop loop-holds (λ c. search needs) (λ c. omega arith) (λ c. search needs)
+    (λ c. search needs) loop-again (λ c. search needs) returns)

@@ -47,7 +47,8 @@ pair-at-spec 𝓤 H 𝓜 𝓖 𝓡 =
     let c = pair-at.clauses 𝓤 H A (𝓜 .mem) (𝓡 .run) in
     let new-says = new.clauses 𝓤 H A (𝓜 .mem) (𝓡 .run) in
     let pair-says = pair.clauses 𝓤 H A (𝓜 .mem) (𝓡 .run) in
-    let known-new = cited 𝓤 H (Promise 𝓤 H A new.ended new-says) 𝓜 𝓡 code.env #new new-def.routine code.calls-delay-list·Reader·new (new-thm.met 𝓤 H 𝓜 𝓖 𝓡) in
+    let known-new = cited 𝓤 H (Promise 𝓤 H A new.ended new-says) 𝓜 𝓡 code.env #new new-def.routine
+    code.calls-delay-list·Reader·new (new-thm.met 𝓤 H 𝓜 𝓖 𝓡) in
     let known-pair = cited 𝓤 H (Promise 𝓤 H A pair.ended pair-says) 𝓜 𝓡 code.env #pair pair-def.routine code.calls-delay-list·Reader·pair
     (pair-thm.met 𝓤 H 𝓜 𝓖 𝓡) in
     entered 𝓤 H (Promise 𝓤 H A pair-at.ended c) (𝓣 .C) (𝓣 .Λ) #pair-at code.function (code.unfolded 𝓤 H 𝓜 𝓡)
@@ -57,9 +58,11 @@ pair-at-spec 𝓤 H 𝓜 𝓖 𝓡 =
     let k = a .1 .0 in
     let fits = are .1 .0 .1 in
     move ! (2 ∷ []) $ heard ! (PairIn (now s) k) (λ ok. move ! (1 ∷ []) $ fsplit ! $ move ! (2 ∷ 0 ∷ []) $
-    begins ! (𝓣 .C) (𝓣 .Λ) code.function _ (shr-slice-lawful 𝓤 H A W (named 0) κ u32 .typed s _ (are .0) .0, ((tt, record { fits = fits }), tt)) (λ bs.
+    begins ! (𝓣 .C) (𝓣 .Λ) code.function _ (shr-slice-lawful 𝓤 H A W (named 0) κ u32 .typed s _ (are .0) .0, ((tt, record { fits = fits }), tt))
+    (λ bs.
     -- [the locals; the token; what the words own; what the place owns]
-    move ! (8 ∷ 9 ∷ []) $ makes ! fm (𝓜 .mem) (𝓡 .run) known-new s (λ P. and-then ! (val ! 2 refl) (and-then ! (val ! 2 refl) (no-more !))) fits (λ d made is.
+    move ! (8 ∷ 9 ∷ []) $ makes ! fm (𝓜 .mem) (𝓡 .run) known-new s (λ P. and-then ! (val ! 2 refl)
+    (and-then ! (val ! 2 refl) (no-more !))) fits (λ d made is.
     lands-in ! 3 refl (typed 𝓤 H A W κ d is) $ move ! (1 ∷ 0 ∷ []) $
     asks-it ! fm (plain (λ _. S.the-row)) pair-says known-pair d tt (LL.val S.the-type S′.the-laws) (LL.tells S.the-type S′.the-laws)
     (IsPair (now (d .words)) (d .at)) (λ p. id⊢ 𝓤 _)

@@ -83,11 +83,13 @@ module _ (κ : Lft) (s : RefT (List ℕ)) (was : List ℕ) where
   ≺ t′ t = left t′ < left t
 
 -- what is had there: words, buffer and reader in their locals, and what each owns; the buffer is open
-module _ {M : Type 1} (𝓤 : URA M) (H : Heap 𝓤) (A : Atoms 𝓤) (W : Given 𝓤 H A) (κ κ′ : Lft) (q q′ : Share) (s : RefT (List ℕ)) (b o : ℕ) (γ : GName)
+module _ {M : Type 1} (𝓤 : URA M) (H : Heap 𝓤) (A : Atoms 𝓤) (W : Given 𝓤 H A) (κ κ′ : Lft) (q q′ : Share) (s : RefT (List ℕ))
+    (b o : ℕ) (γ : GName)
     (was : List ℕ) where
   abbrev Standing : Env → State κ s was → List (Item 𝓤)
   Standing E t = held E (none ∷ some (wordsVal s) ∷ some (sliceVal (b, o) (length was)) ∷ some (lowered (t .reader)) ∷ [])
-      (token 𝓤 A κ q ∷ ‵ (Own 𝓤 H A W κ (t .reader)) ∷ ‵ (cells (mem u32) (t .answer) b o) ∷ ‵ (Open u32 b o κ′ q′ γ was) ∷ ‵ (Words κ s) ∷ [])
+      (token 𝓤 A κ q ∷ ‵ (Own 𝓤 H A W κ (t .reader)) ∷ ‵ (cells (mem u32)
+      (t .answer) b o) ∷ ‵ (Open u32 b o κ′ q′ γ was) ∷ ‵ (Words κ s) ∷ [])
 
 -- after the loop
 abbrev rest : Body
@@ -105,7 +107,8 @@ fill-spec 𝓤 H 𝓜 𝓖 𝓡 =
     let next-says = next.clauses 𝓤 H A (𝓜 .mem) (𝓡 .run) in
     let store-says = store.clauses 𝓤 H A (𝓜 .mem) (𝓡 .run) in
     let advanced-says = advanced.clauses 𝓤 H A (𝓜 .mem) (𝓡 .run) in
-    let known-new = cited 𝓤 H (Promise 𝓤 H A new.ended new-says) 𝓜 𝓡 code.env #new new-def.routine code.calls-delay-list·Reader·new (new-thm.met 𝓤 H 𝓜 𝓖 𝓡) in
+    let known-new = cited 𝓤 H (Promise 𝓤 H A new.ended new-says) 𝓜 𝓡 code.env #new new-def.routine
+    code.calls-delay-list·Reader·new (new-thm.met 𝓤 H 𝓜 𝓖 𝓡) in
     let known-next = cited 𝓤 H (Promise 𝓤 H A next.ended next-says) 𝓜 𝓡 code.env #next next-def.routine code.calls-delay-list·Reader·next
     (next-thm.met 𝓤 H 𝓜 𝓖 𝓡) in
     let known-store = cited 𝓤 H (Promise 𝓤 H A store.ended store-says) 𝓜 𝓡 code.env #store store-def.routine code.calls-read-list·store
@@ -125,7 +128,8 @@ fill-spec 𝓤 H 𝓜 𝓖 𝓡 =
     let room = are .1 .0 .0 .1 in
     move ! (2 ∷ []) $ heard ! (IsAccepted (now s) × (4 * pairCount (now s) ≤ length was)) (λ ok.
     parted κs qs ! $ move ! (2 ∷ []) $ fsplit ! $ move ! (1 ∷ []) $ fsplit ! $ keep ! (3 ∷ 2 ∷ 0 ∷ 4 ∷ []) $
-    begins ! (𝓣 .C) (𝓣 .Λ) code.function _ (shr-slice-lawful 𝓤 H A W (named 0) κ u32 .typed s _ (are .0) .0, ((tt, (tt, (record { fits = room .0 }, tt))), tt))
+    begins ! (𝓣 .C) (𝓣 .Λ) code.function _
+    (shr-slice-lawful 𝓤 H A W (named 0) κ u32 .typed s _ (are .0) .0, ((tt, (tt, (record { fits = room .0 }, tt))), tt))
     (λ bs.
     let E = env (code.function .locals) bs in
     let I = Standing 𝓤 H A W κ κ′ (qs .0) (qs .1 .0) s b o γ was E in
@@ -159,7 +163,8 @@ fill-spec 𝓤 H 𝓜 𝓖 𝓡 =
     -- a pair: the reader goes on
     (λ one. sets ! 3 (of-opd ! (val ! 3 refl)) refl wt $ move ! (1 ∷ 2 ∷ []) $
     asks-it ! fm (plain B) advanced-says known-advanced d tt lowered (reader-tells (κ, tt))
-    (λ r. (r .words ≡ d .words) × (r .at ≡ placeAfter (now (d .words)) k)) (λ r. id⊢ 𝓤 _) (id⊢ 𝓤 _) (λ P. and-then ! (val ! 3 refl) (no-more !)) (λ d′ gone is′.
+    (λ r. (r .words ≡ d .words) × (r .at ≡ placeAfter (now (d .words)) k)) (λ r. id⊢ 𝓤 _) (id⊢ 𝓤 _)
+    (λ P. and-then ! (val ! 3 refl) (no-more !)) (λ d′ gone is′.
     let on : d′ .at ≡ placeAfter (now s) k = subst (λ (z : RefT (List ℕ)). d′ .at ≡ placeAfter (now z) k) (t .same) (gone .1) in
     let read′ : ReadTo (now s) was zs (d′ .at) = rw on (turn-next (now s) (t .read) came kept (ok .1) one) in
     let t′ : State κ s was = record { reader = d′; answer = zs; is = is′; same = gone .0 ∙ t .same; read = read′ } in

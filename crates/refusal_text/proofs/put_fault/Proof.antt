@@ -1,7 +1,7 @@
 -- `put_fault`: the line's number after its name, and then what is wrong with the text.
 use native.Mathlib.Omega.{arith}
 use Rattle.text_pieces.proofs.PutLaws.{put-then, put-within}
-use Rattle.refusal_text.specs.PlainWords.{faultLine}
+use Rattle.refusal_text.specs.RefusalText.{faultLine}
 use borrow.Author.Needs.{needs}
 use Rattle.refusal_text.proofs.put_fault.Statement.{statement}
 use Rattle.refusal_text.proofs.put_fault.Tie as tie

@@ -1,8 +1,8 @@
 -- `put_meaning`: the words for a refusal: one answer for each row of the table, and one for the numbers without a row.
 use native.Mathlib.Omega.{arith}
 use Rattle.text_pieces.proofs.PutLaws.{put-as}
-use Rattle.refusal_text.specs.PlainWords.{wordsWidth, wordsFor, meanings, meaning}
-use Rattle.refusal_text.proofs.WordLaws.{others-said}
+use Rattle.refusal_text.specs.RefusalText.{wordsWidth, wordsFor, meanings, meaning}
+use Rattle.refusal_text.proofs.RefusalTextLaws.{others-said}
 use borrow.Author.Needs.{needs}
 use Rattle.refusal_text.proofs.put_meaning.Statement.{statement}
 use Rattle.refusal_text.proofs.put_meaning.Tie as tie

@@ -1,6 +1,6 @@
 -- `put_refusal`: the number and the place of a refusal, and then what it means.
 use Rattle.text_pieces.proofs.PutLaws.{put-then}
-use Rattle.refusal_text.specs.PlainWords.{refusalLine}
+use Rattle.refusal_text.specs.RefusalText.{refusalLine}
 use borrow.Author.Needs.{needs}
 use Rattle.refusal_text.proofs.put_refusal.Statement.{statement}
 use Rattle.refusal_text.proofs.put_refusal.Tie as tie

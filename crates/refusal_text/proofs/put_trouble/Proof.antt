@@ -1,8 +1,8 @@
 -- `put_trouble`: the words for a fault: one answer for each row of the table, and one for the number without a row.
 use native.Mathlib.Omega.{arith}
 use Rattle.text_pieces.proofs.PutLaws.{put-as}
-use Rattle.refusal_text.specs.PlainWords.{wordsWidth, wordsFor, troubles, trouble}
-use Rattle.refusal_text.proofs.WordLaws.{others-said}
+use Rattle.refusal_text.specs.RefusalText.{wordsWidth, wordsFor, troubles, trouble}
+use Rattle.refusal_text.proofs.RefusalTextLaws.{others-said}
 use borrow.Author.Needs.{needs}
 use Rattle.refusal_text.proofs.put_trouble.Statement.{statement}
 use Rattle.refusal_text.proofs.put_trouble.Tie as tie

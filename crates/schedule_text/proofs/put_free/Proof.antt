@@ -1,7 +1,7 @@
 -- `put_free`: the two periods in a line, and then the lines of the registers.
 use native.Mathlib.Omega.{arith}
 use Rattle.text_pieces.proofs.PutLaws.{put-then, put-within}
-use Rattle.schedule_text.specs.JobText.{freeLine}
+use Rattle.schedule_text.specs.ScheduleText.{freeLine}
 use borrow.Author.Needs.{needs}
 use Rattle.schedule_text.proofs.put_free.Statement.{statement}
 use Rattle.schedule_text.proofs.put_free.Tie as tie

@@ -3,7 +3,7 @@ use mathlib.Core.Path.{_≡_}
 use native.Mathlib.Omega.{arith}
 use lib.ListN.{length}
 use Rattle.timing.specs.Limits.{maxRegisters}
-use Rattle.schedule_text.proofs.JobLaws.{free-in, free-refused, free-periods}
+use Rattle.schedule_text.proofs.ScheduleTextLaws.{free-in, free-refused, free-periods}
 use borrow.Author.Needs.{needs}
 use Rattle.schedule_text.proofs.put_free_words.Statement.{statement}
 use Rattle.schedule_text.proofs.put_free_words.Tie as tie

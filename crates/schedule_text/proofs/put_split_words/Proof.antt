@@ -3,7 +3,7 @@ use mathlib.Core.Path.{_≡_}
 use native.Mathlib.Omega.{arith}
 use lib.ListN.{length}
 use Rattle.timing.specs.Limits.{maxRegisters}
-use Rattle.schedule_text.proofs.JobLaws.{split-in, split-refused, split-none, split-found}
+use Rattle.schedule_text.proofs.ScheduleTextLaws.{split-in, split-refused, split-none, split-found}
 use borrow.Author.Needs.{needs}
 use Rattle.schedule_text.proofs.put_split_words.Statement.{statement}
 use Rattle.schedule_text.proofs.put_split_words.Tie as tie

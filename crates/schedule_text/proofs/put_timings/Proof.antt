@@ -3,7 +3,7 @@
 use Prim.Native.Nat.{_-_}
 use native.Mathlib.Omega.{arith}
 use Rattle.text_pieces.proofs.PutLaws.{Listing, listing-start, listing-room, listing-turn, listing-end, put-size}
-use Rattle.schedule_text.specs.JobText.{timingWidth, timingLine, timingLines}
+use Rattle.schedule_text.specs.ScheduleText.{timingWidth, timingLine, timingLines}
 use borrow.Author.Needs.{needs}
 use Rattle.schedule_text.proofs.put_timings.Statement.{statement}
 use Rattle.schedule_text.proofs.put_timings.Tie as tie

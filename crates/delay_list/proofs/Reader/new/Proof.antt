@@ -41,4 +41,5 @@ new-spec 𝓤 H 𝓜 𝓖 𝓡 =
     begins ! (𝓣 .C) (𝓣 .Λ) code.function _ ((tt, wt .1 .0), ((tt, wt .1 .1 .0), tt)) (λ bs.
     sets ! 0 (agg ! (and-then ! (val ! 0 refl) (and-then ! (val ! 0 refl) (no-more !)))) refl wt $
     leaves ! (some _ ∷ some _ ∷ some _ ∷ []) refl refl $
-    ends 𝓤 H A 1 (words tt ∷ place ∷ []) (plain B) c κs qs bounds a g ! (lowered d) d (tt, (tt, tt)) (tt, (tt, tt)) (factI 𝓤 _ (emp 𝓤) (refl, refl))))))
+    ends 𝓤 H A 1 (words tt ∷ place ∷ []) (plain B) c κs qs bounds a g ! (lowered d) d (tt, (tt, tt)) (tt, (tt, tt))
+    (factI 𝓤 _ (emp 𝓤) (refl, refl))))))

@@ -18,8 +18,8 @@ use Rattle.split.specs.declared.Splitting.{Splitting}
 use Rattle.split.specs.declared.Splitting.the-variants.{Split, NoSplit, Refused as NotSplit}
 use Rattle.text_pieces.specs.Pieces.{Put, letters}
 use Rattle.text_pieces.proofs.PutLaws.{put-within}
-use Rattle.refusal_text.specs.PlainWords.{lineWidth, refusalLine}
-use Rattle.schedule_text.specs.JobText.{timingWidth, freeWidth, splitWidth, timingLine, timingLines, jobPlaces, freeLine, freeDone, splitDone}
+use Rattle.refusal_text.specs.RefusalText.{lineWidth, refusalLine}
+use Rattle.schedule_text.specs.ScheduleText.{timingWidth, freeWidth, splitWidth, timingLine, timingLines, schedulePlaces, freeLine, freeDone, splitDone}
 
 lines-over : (n k : ℕ) (xs : List ℕ) → timingLines n (over xs (zeros k)) ≡ timingLines n xs
 unfolding timingLines
@@ -38,8 +38,9 @@ module _ {ws now : List ℕ} {r : FreeAnswer} (a : FreeAs ws (zeros maxRegisters
   free-reply : freeReply r ≡ replyOf (freeOf ws)
   free-reply = rw (zeros-size maxRegisters) at (a .reply)
 
-  pub free-refused : {number place next : ℕ} {text text′ : List ℕ} → r ≡ Refused number place → Put lineWidth (refusalLine number place) text 0 text′ next
-      → Put jobPlaces (told refusalLine (freeDone (registers ws)) (freeOf ws)) text 0 text′ next
+  pub free-refused : {number place next : ℕ} {text text′ : List ℕ} → r ≡ Refused number place
+      → Put lineWidth (refusalLine number place) text 0 text′ next
+      → Put schedulePlaces (told refusalLine (freeDone (registers ws)) (freeOf ws)) text 0 text′ next
   unfolding freeReply
   free-refused e put =
       rw (told-refusal refusalLine (freeDone (registers ws)) (freeOf ws) (rw e at free-reply)) (put-within put (omega (arith, put .most)))
@@ -55,7 +56,7 @@ module _ {ws now : List ℕ} {r : FreeAnswer} (a : FreeAs ws (zeros maxRegisters
 
     pub free-periods : {n next : ℕ} {text text′ : List ℕ} → n ≡ registers ws
         → Put (freeWidth + timingWidth * n) (freeLine c f ++ timingLines n now) text 0 text′ next
-        → Put jobPlaces (told refusalLine (freeDone (registers ws)) (freeOf ws)) text 0 text′ next
+        → Put schedulePlaces (told refusalLine (freeDone (registers ws)) (freeOf ws)) text 0 text′ next
     free-periods {n} h put =
         let few : n ≤ maxRegisters = omega (arith, free-in .most) in
         let stored : now ≡ bufferAfter (freeOf ws) (zeros maxRegisters) = rw (zeros-size maxRegisters) at (a .stored) in
@@ -76,20 +77,22 @@ module _ {ws now scratch′ : List ℕ} {t s : ℕ} {r : Splitting} (a : SplitAs
   split-reply : splitReply r ≡ replyOf (splitOf ws t s)
   split-reply = rw (zeros-size maxRegisters, zeros-size maxScratch) at (a .reply)
 
-  pub split-refused : {number place next : ℕ} {text text′ : List ℕ} → r ≡ NotSplit number place → Put lineWidth (refusalLine number place) text 0 text′ next
-      → Put jobPlaces (told refusalLine (splitDone (registers ws)) (splitOf ws t s)) text 0 text′ next
+  pub split-refused : {number place next : ℕ} {text text′ : List ℕ} → r ≡ NotSplit number place
+      → Put lineWidth (refusalLine number place) text 0 text′ next
+      → Put schedulePlaces (told refusalLine (splitDone (registers ws)) (splitOf ws t s)) text 0 text′ next
   unfolding splitReply
   split-refused e put =
       rw (told-refusal refusalLine (splitDone (registers ws)) (splitOf ws t s) (rw e at split-reply)) (put-within put (omega (arith, put .most)))
 
-  split-by : {xs : List ℕ} → numbers xs ≡ splitReply r → told refusalLine (splitDone (registers ws)) (splitOf ws t s) ≡ splitDone (registers ws) xs now
+  split-by : {xs : List ℕ} → numbers xs ≡ splitReply r → told refusalLine (splitDone (registers ws)) (splitOf ws t s)
+      ≡ splitDone (registers ws) xs now
   split-by e =
       let stored : now ≡ bufferAfter (splitOf ws t s) (zeros maxRegisters) = rw (zeros-size maxRegisters, zeros-size maxScratch) at (a .stored) in
       let same = split-same (registers ws) maxRegisters in
       rw stored (told-numbers refusalLine (splitDone (registers ws)) (zeros maxRegisters) same (splitOf ws t s) (e ∙ split-reply))
 
   pub split-none : {next : ℕ} {text text′ : List ℕ} → r ≡ NoSplit → Put 9 (letters "no split\n") text 0 text′ next
-      → Put jobPlaces (told refusalLine (splitDone (registers ws)) (splitOf ws t s)) text 0 text′ next
+      → Put schedulePlaces (told refusalLine (splitDone (registers ws)) (splitOf ws t s)) text 0 text′ next
   unfolding splitReply
   split-none e put = rw (split-by {xs = 0 ∷ []} (rw e)) (put-within put (omega arith))
 
@@ -104,7 +107,7 @@ module _ {ws now scratch′ : List ℕ} {t s : ℕ} {r : Splitting} (a : SplitAs
 
     pub split-found : {n next : ℕ} {text text′ : List ℕ} → n ≡ registers ws
         → Put (splitWidth + timingWidth * n) (letters "split\n" ++ timingLines n now) text 0 text′ next
-        → Put jobPlaces (told refusalLine (splitDone (registers ws)) (splitOf ws t s)) text 0 text′ next
+        → Put schedulePlaces (told refusalLine (splitDone (registers ws)) (splitOf ws t s)) text 0 text′ next
     split-found {n} h put =
         let few : n ≤ maxRegisters = omega (arith, split-in .most) in
         rw (split-by {xs = 1 ∷ []} split-told, ← h) (put-within put (omega (arith, put .most)))

@@ -11,7 +11,7 @@ use Rattle.list_format.specs.Lists.{registers}
 use Rattle.free_schedule.specs.FreeCall.{freeing}
 use Rattle.split.specs.Splitting.{splitting}
 use Rattle.text_pieces.specs.Pieces.{letters, number, named, space, newline, numberWidth}
-use Rattle.refusal_text.specs.PlainWords.{lineWidth, refusalLine}
+use Rattle.refusal_text.specs.RefusalText.{lineWidth, refusalLine}
 use Rattle.list_bytes.specs.ListBytes.{listOf}
 
 -- a register and its timing
@@ -37,8 +37,8 @@ abbrev pub splitWidth : ℕ
 splitWidth = 6
 
 -- places enough for any of these texts: a line for each register, and before them the longest line there is
-abbrev pub jobPlaces : ℕ
-jobPlaces = timingWidth * maxRegisters + lineWidth
+abbrev pub schedulePlaces : ℕ
+schedulePlaces = timingWidth * maxRegisters + lineWidth
 
 -- ---- the free schedule
 

@@ -7,7 +7,7 @@ use native.Mathlib.Omega.{arith}
 use borrow.Author.Tests.{ne-eqb}
 use Rattle.text_pieces.specs.Pieces.{letters, Put}
 use Rattle.text_pieces.proofs.PutLaws.{put-within}
-use Rattle.refusal_text.specs.PlainWords.{wordsWidth, wordsFor}
+use Rattle.refusal_text.specs.RefusalText.{wordsWidth, wordsFor}
 
 -- no row has the number
 abbrev pub NoRow : List (ℕ × String) → ℕ → Type 0
