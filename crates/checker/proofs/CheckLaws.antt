@@ -250,3 +250,7 @@ admissible-passes ws t s a from upto size limit meets =
     call : firstFault (timingChecks (registers ws) t s) ≡ None
     call = passes (timingChecks (registers ws) t s)
         (ne-eqb t 0 (λ e. omega arith), (le-ltb _ _ upto, (no-difference _ _ size, (none-above s limit, tt))))
+
+-- the same period and the same timings pass too
+pub passes-as : (ws : List ℕ) {t u : ℕ} {s x : List ℕ} → u ≡ t → x ≡ s → Passes ws t s → Passes ws u x
+passes-as ws e d h = rw (e, d) h

@@ -14,6 +14,9 @@ use timing::Pair;
 use timing::larger;
 use timing::less;
 
+// The shortest period.
+const SHORTEST: u32 = 1;
+
 // Rounds of a trial before the pairs are put in another order.
 const FEW: usize = 7;
 
@@ -34,7 +37,7 @@ fn lowest(words: &[u32], count: usize) -> u32
     ensures from { λ r. ⌜ 1 ≤ r ⌝ }
     ensures bound { λ r. ⌜ Bound (pairs (now (words .entry))) r ⌝ }
 {
-    let mut most = 1;
+    let mut most = SHORTEST;
     let mut k = 0;
     while k < count {
         let p = delay_list::pair_at(words, k);
@@ -50,7 +53,7 @@ pub fn common(words: &[u32], count: usize) -> u32
     requires { ⌜ count ≡ pairCount (now words) ⌝ }
     ensures { λ r. ⌜ r ≡ commonOf (pairs (now (words .entry))) ⌝ }
 {
-    let mut most = 1;
+    let mut most = SHORTEST;
     let mut k = 0;
     while k < count {
         let p = delay_list::pair_at(words, k);

@@ -21,7 +21,7 @@ use Rattle.free_laws.specs.Unbeaten.{UnbeatenFree}
 use Rattle.free_laws.proofs.FreeLaws.{common-limit, period-common, free-capped}
 use Rattle.free_laws.proofs.UnbeatenLaws.{free-unbeaten}
 use Rattle.checker.specs.Check.{Passes}
-use Rattle.checker.proofs.CheckLaws.{admissible-passes}
+use Rattle.checker.proofs.CheckLaws.{admissible-passes, passes-as}
 use Rattle.free_climb.specs.Climbed.{Climbed}
 use Rattle.free_schedule.specs.FreeCall.{freeing, freeReply, FreeAs, Roomy, FreeIn}
 use Rattle.free_schedule.specs.declared.FreeAnswer.the-variants.{Periods, Refused}
@@ -87,7 +87,7 @@ module _ {ws : List ℕ} {n count : ℕ} {was : List ℕ} (r : Roomy ws n count 
           reply = rw (done-is, c, f .period);
           stored = rw done-is (f .places);
           unbeaten = λ c₁ f₁ q. let z : f₁ ≡ free = cc in rw (z ∙ f .period, front) (unbeaten-free (r .list));
-          passes = λ c₁ f₁ q. let z : f₁ ≡ free = cc in rw (z ∙ f .period, front) (free-passes (r .list));
+          passes = λ c₁ f₁ q. let z : f₁ ≡ free = cc in passes-as ws (z ∙ f .period) front (free-passes (r .list));
         }
 
 module _ (ws was : List ℕ) where

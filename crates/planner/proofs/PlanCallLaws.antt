@@ -30,7 +30,7 @@ use Rattle.free_laws.proofs.Bound.{bound-free}
 use Rattle.free_schedule.specs.FreeCall.{FreeIn}
 use Rattle.free_schedule.proofs.CallLaws.{common-upto, free-passes}
 use Rattle.checker.specs.Check.{Passes}
-use Rattle.checker.proofs.CheckLaws.{admissible-passes}
+use Rattle.checker.proofs.CheckLaws.{admissible-passes, passes-as}
 use Rattle.split_laws.proofs.TimingsLaws.{timings-below}
 use Rattle.split_laws.specs.Split.{timings}
 use Rattle.plan_laws.specs.Plan.{twoPeriod, twoOffset, twoTimings}
@@ -215,5 +215,5 @@ module _ (ws answer scratch : List ℕ) {n m : ℕ} (a : PlanAllowed ws n m (len
           passes = λ c₁ f₁ t₁ o₁ q.
               let ef : f₁ ≡ free = cc in
               let et : t₁ ≡ two = cc in
-              rw (ef ∙ f .period, et ∙ t .period, front, behind) (free-passes (a .list), two-passes);
+              (passes-as ws (ef ∙ f .period) front (free-passes (a .list)), passes-as ws (et ∙ t .period) behind two-passes);
         }
