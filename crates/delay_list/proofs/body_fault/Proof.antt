@@ -1,4 +1,5 @@
--- What is left of the checks decides as the whole does.
+-- `body_fault`: the first fault of the pairs, one by one, and of the end.
+-- Invariant `Remaining`: what is left of the checks decides as the whole does. What falls: m - k.
 use Prim.Native.Nat.{_-_}
 use mathlib.Core.Path.{sym, _∙_}
 use native.Mathlib.Omega.{arith}
