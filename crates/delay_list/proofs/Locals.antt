@@ -4,6 +4,7 @@
 --     begins           a function is entered: its parameters are stored, its other locals are empty
 --     val, part        local i is read, or a field of it
 --     sets, lands-in   it is filled by an assignment, or by a call.        copies-last      it is overwritten, at the end of a turn
+--     lands-part       a call's result is put in a field of it
 --     tests            the test of a loop
 --     fronts           the entries in front of the locals go behind them.        clears     the locals that are not marked are emptied
 --     leaves           the function returns, and all locals are freed
@@ -26,7 +27,7 @@ use prog.Wp.{Heap, Calls, Loops, WpFn, release, next, exits}
 use ghost.Atoms.{Atoms}
 use types.Kit.{Given, Item, ‵, raw, mean, ⋆, nth, del, put, pull, unpull, sel, sel⊢, push, pop, Post, post, Goal, prop, runs, lands, allocs, params′}
 use types.Kit.{passes, atRet, Seq, Step, step, _$_, _∵_, !, qed, move, join, by, done}
-use types.Part.{Part, look-in}
+use types.Part.{Part, look-in, store-in}
 use types.Run.{Opd, Rv, look, init, store, stop, fld, from, load, of-opd, assigns, assigns-last, land, first, skips, jumps, branches, returns}
 use types.Run.{Writes, enter, alloc1, alloc0, params1, pass1, pass0}
 
@@ -235,6 +236,13 @@ module _ {M : Type 1} {𝓤 : URA M} {H : Heap 𝓤} {A : Atoms 𝓤} {K : Type 
         pub lands-in : K → (s : ℕ) {rest : Body} → nth 𝓤 H A (s + spot E i) Γ ≡ empty E i → Holds (hasTy (tyOf E i) v) × WT v
             → Step K W (put 𝓤 H A (s + spot E i) (full E i v) Γ) (runs C Λ E rest q) Γ (lands C Λ E (place i []) v rest q)
         lands-in t s e wt = land t (from t (stop t)) (init t (s + spot E i) e wt)
+
+        -- or in field k of what lies there
+        pub lands-part : K → (s : ℕ) {k : ℕ} {τ : Ty} {d : ℕ} {v₀ : Val} {back : Val → Item 𝓤} {rest : Body}
+            → fieldOf (tyOf E i) k ≡ some (τ, d) → Part K W (nth 𝓤 H A (s + spot E i) Γ) fullShare τ (blockOf E i) (0 + d) v₀ back
+            → Holds (hasTy τ v) × WT v
+            → Step K W (put 𝓤 H A (s + spot E i) (back v) Γ) (runs C Λ E rest q) Γ (lands C Λ E (place i (field k ∷ [])) v rest q)
+        lands-part t s e p wt = land t (from t (fld t e (stop t))) (store-in t (s + spot E i) p wt)
 
     -- what lies in an entry's cell has the cell's type
     holds : K → {G : Goal 𝓤 H} (n : ℕ) {q : Share} {τ : Ty} {b : ℕ} {v : Val} → nth 𝓤 H A n Γ ≡ ‵ (fat q τ b 0 v)

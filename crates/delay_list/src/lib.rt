@@ -230,10 +230,9 @@ impl<'a> Reader<'a> {
     pub fn advanced(self) -> Reader<'a>
         ensures { λ r. ⌜ (r .words ≡ self .entry .words) × (r .at ≡ placeAfter (now (self .entry .words)) (self .entry .at)) ⌝ }
     {
-        Reader {
-            words: self.words,
-            at: place_after(self.words, self.at),
-        }
+        let mut next = self;
+        next.at = place_after(self.words, self.at);
+        next
     }
 }
 
