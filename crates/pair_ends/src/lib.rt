@@ -1,0 +1,33 @@
+// The ends of the pairs at each register, for walks from a register along its pairs.
+// They are a hint only, and nothing is promised of them.
+ghost use mathlib.Core.Path.{_≡_};
+ghost use Rattle.list_format.specs.Lists.{pairCount, IsAccepted};
+use timing::MAX_PAIRS;
+
+pub const REGISTERS: usize = timing::MAX_REGISTERS as usize;
+
+// A pair has two ends: 2k + 1 is the launch of pair k, 2k + 2 its capture; 0 is none.
+pub const ENDS: usize = 2 * MAX_PAIRS;
+
+// End e + 1 is put at register r, after the ends that are there.
+fn join(r: usize, e: usize, lasts: &mut [u16; REGISTERS], before: &mut [u16; ENDS]) {
+    let at = r % REGISTERS;
+    let i = e % ENDS;
+    before[i] = lasts[at];
+    lasts[at] = (i + 1) as u16;
+}
+
+// Both ends of every pair: lasts[r] is the last end at register r, before[e - 1] the one before end e.
+pub fn link(words: &[u32], count: usize, lasts: &mut [u16; REGISTERS], before: &mut [u16; ENDS])
+    requires { ⌜ IsAccepted (now words) ⌝ }
+    requires { ⌜ count ≡ pairCount (now words) ⌝ }
+{
+    let mut k = 0;
+    while k < count {
+        let p = delay_list::pair_at(words, k);
+        let twice = 2 * (k % MAX_PAIRS);
+        join(p.launch as usize, twice, lasts, before);
+        join(p.capture as usize, twice + 1, lasts, before);
+        k += 1;
+    }
+}
