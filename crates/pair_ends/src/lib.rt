@@ -1,6 +1,7 @@
 // The ends of the pairs at each register, for walks from a register along its pairs.
 // They are a hint only, and nothing is promised of them.
 ghost use mathlib.Core.Path.{_≡_};
+ghost use Prim.Native.Nat.{_<_};
 ghost use Rattle.list_format.specs.Lists.{pairCount, IsAccepted};
 use timing::MAX_PAIRS;
 
@@ -30,4 +31,22 @@ pub fn link(words: &[u32], count: usize, lasts: &mut [u16; REGISTERS], before: &
         join(p.capture as usize, twice + 1, lasts, before);
         k += 1;
     }
+}
+
+fn wide(x: u16) -> usize {
+    x as usize
+}
+
+// The last end at register r.
+pub fn last_at(lasts: &[u16; REGISTERS], r: usize) -> usize {
+    wide(lasts[r % REGISTERS])
+}
+
+// The end before an end at its register, a smaller one or none.
+pub fn end_before(before: &[u16; ENDS], end: usize) -> usize
+    requires { ⌜ 0 < end ⌝ }
+    ensures { λ r. ⌜ r < end ⌝ }
+{
+    let e = wide(before[(end - 1) % ENDS]);
+    if e < end { e } else { 0 }
 }
