@@ -104,7 +104,7 @@ fn needed(w: Trail) -> u32
 }
 
 // The period that the cycle of parents through a register asks for; 0 if it is on none.
-fn around(words: &[u32], count: usize, n: usize, parents: &[u32; PARENTS], start: u32) -> u32
+pub fn around(words: &[u32], count: usize, n: usize, parents: &[u32; PARENTS], start: u32) -> u32
     requires { ⌜ AcceptedList (now words) n count ⌝ }
     requires { ⌜ start < registers (now words) ⌝ }
     ensures { λ r. ⌜ Bound (pairs (now (words .entry))) r ⌝ }

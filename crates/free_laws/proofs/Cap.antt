@@ -41,10 +41,10 @@ pub record Relaxed (c t : ℕ) (p : Pair) (x y : List ℕ) : Type 0 where
   pub low : (f : ℕ → ℕ) → Meets f (setup t p) → Meets f (hold p) → Below x f → Below y f
   pub attained : Attained c x y (setup t p) × Attained c x y (hold p)
 
-abbrev obeyTo : ℕ → Constraint → List ℕ → List ℕ
+abbrev pub obeyTo : ℕ → Constraint → List ℕ → List ℕ
 obeyTo c r x = raiseTo c (r .dst) (ask r x) x
 
-obey-to : (c : ℕ) (r : Constraint) (x : List ℕ) → Capped c x → r .dst < length x → Obeyed c r x (obeyTo c r x)
+pub obey-to : (c : ℕ) (r : Constraint) (x : List ℕ) → Capped c x → r .dst < length x → Obeyed c r x (obeyTo c r x)
 obey-to c r x k h = obeyed c r x (min c (max (time x (r .dst)) (ask r x))) h (omega (arith, k (r .dst))) (omega arith) (omega arith)
 
 relax-obey : (c t : ℕ) (p : Pair) (x : List ℕ) → relaxTo c t p x ≡ obeyTo c (hold p) (obeyTo c (setup t p) x)

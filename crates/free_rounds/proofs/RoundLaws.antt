@@ -6,7 +6,7 @@ use Prim.Native.Nat.{ℕ, _+_, _-_, _≤_, _<_, zero-le}
 use mathlib.Core.Bool.{Bool, true, false}
 use mathlib.Core.List.{List}
 use mathlib.Core.Path.{_≡_, refl, ap, sym, _∙_, subst}
-use native.Mathlib.Nat.{le-refl, le-trans}
+use native.Mathlib.Nat.{le-refl, le-trans, add-zero}
 use native.Mathlib.Omega.{arith}
 use borrow.Author.Count.{below-more}
 use lib.ListN.{length, length-set}
@@ -17,11 +17,11 @@ use Rattle.list_format.specs.Lists.{pairCount, pairAt, pairs, PairIn, IsPair, p
 use Rattle.list_format.proofs.ListLaws.{few-registers, few-pairs, pair-in, each-pair, pair-holds, each-place}
 use Rattle.free_laws.proofs.ConstraintList as rule-list
 use Rattle.free_laws.specs.Constraint.{Constraint, Meets, setup, hold, constraints, Below}
-use Rattle.free_laws.specs.Raise.{Attained, Capped, raiseTo, relaxTo, Risen, RoundTo}
+use Rattle.free_laws.specs.Raise.{ask, Attained, Capped, raiseTo, relaxTo, Risen, RoundTo}
 use Rattle.free_laws.proofs.ConstraintList.{each-rule}
 use Rattle.free_laws.proofs.Sweep.{attained-more}
 use Rattle.free_laws.proofs.Cycle.{Among}
-use Rattle.free_laws.proofs.Cap.{raise-capped, Relaxed, relaxed}
+use Rattle.free_laws.proofs.Cap.{raise-capped, obey-to, Relaxed, relaxed}
 use Rattle.free_rounds.specs.Raise.{Raisable, Relaxable, Raising}
 
 -- a register raised leaves a schedule that can be raised
@@ -83,6 +83,24 @@ module _ {ws : List ℕ} {count t : ℕ} {x₀ : List ℕ} (r : Raising ws count
             low = λ f m b. let both = rules-at is (turn-pair .below) t f m in turned .low f (both .0) (both .1) (s .low f m b);
           })
 
+      -- one rule alone
+      module _ {y : List ℕ} where
+        obeys : (r : Constraint) → r .dst < length x → ((f : ℕ → ℕ) → Each (Meets f) (constraints t (pairs ws)) → Meets f r)
+            → y ≡ raiseTo maxTiming (r .dst) (ask r x) x → Risen maxTiming (constraints t (pairs ws)) x₀ y
+        obeys r b among e =
+            let o = obey-to maxTiming r x (s .capped) b in
+            rw e (record {
+              size = o .size ∙ s .size;
+              capped = raise-capped maxTiming (r .dst) (ask r x) x (s .capped);
+              low = λ f m l. o .low f (among f m) (s .low f m l);
+            })
+
+        pub risen-setup : y ≡ raiseTo maxTiming (p .capture) (time x (p .launch) + p .greatest - t) x → Risen maxTiming (constraints t (pairs ws)) x₀ y
+        risen-setup e = obeys (setup t p) (inside .capture) (λ f m. rules-at is (turn-pair .below) t f m .0) e
+
+        pub risen-hold : y ≡ raiseTo maxTiming (p .launch) (time x (p .capture) - p .least) x → Risen maxTiming (constraints t (pairs ws)) x₀ y
+        risen-hold e = obeys (hold p) (inside .launch) (λ f m. rules-at is (turn-pair .below) t f m .1) (e ∙ rw add-zero)
+
 -- ---- raises one after the other
 
 pub risen-then : {c : ℕ} {rs : List Constraint} {x y z : List ℕ} → Risen c rs x y → Risen c rs y z → Risen c rs x z
@@ -96,6 +114,10 @@ raising-kept r s =
       capped = s .capped;
       period = r .period;
     }
+
+-- a round is one
+pub round-risen : {c : ℕ} {rs : List Constraint} {x y : List ℕ} → RoundTo c rs x y → Risen c rs x y
+round-risen r = record { size = r .round .size; capped = r .capped; low = r .round .low }
 
 -- ---- a round
 

@@ -84,64 +84,31 @@ pub fn round(
     last
 }
 
-// Both rules of pair k at a period, if the list has one. The answer is that of `relax`.
-fn relax_at(
+// One rule alone, 2k for setup of pair k and 2k + 1 for its hold, if the list has it. The answer is the register that it raised,
+// or the count of registers if it raised none.
+pub fn apply(
     words: &[u32],
     count: usize,
     x: &mut [u32],
     parents: &mut [u32; PARENTS],
     period: u32,
-    k: usize,
-    last: usize,
+    rule: u32,
 ) -> usize
     requires { ⌜ Raising (now words) count period (now x) ⌝ }
     ensures { λ u. ⌜ Risen maxTiming (constraints period (pairs (now (words .entry)))) (now (x .entry)) (now (x .exit)) ⌝ }
 {
-    if k < count {
-        let p = delay_list::pair_at(words, k);
-        return relax(x, parents, p, period, k, last);
+    let none = x.len();
+    let k = (rule / 2) as usize;
+    if k >= count {
+        return none;
     }
-    last
-}
-
-// One round in an order that is only a hint: a pair may be left out or come twice. The answer is that of `round`.
-fn in_order(
-    words: &[u32],
-    count: usize,
-    x: &mut [u32],
-    parents: &mut [u32; PARENTS],
-    period: u32,
-    order: &[usize],
-    down: bool,
-) -> usize
-    requires { ⌜ Raising (now words) count period (now x) × (count ≤ length (now order)) ⌝ }
-    ensures { λ u. ⌜ Risen maxTiming (constraints period (pairs (now (words .entry)))) (now (x .entry)) (now (x .exit)) ⌝ }
-{
-    let mut last = x.len();
-    let mut i = 0;
-    while i < count {
-        let at = delay_list::place(count, i, down);
-        last = relax_at(words, count, x, parents, period, order[at], last);
-        i += 1;
+    let p = delay_list::pair_at(words, k);
+    let a = p.launch as usize;
+    let b = p.capture as usize;
+    if rule % 2 == 0 {
+        let from = x[a];
+        return raise(x, parents, b, from + p.greatest, period, rule, none);
     }
-    last
-}
-
-// One round in the order given, or in that of the list if it is too short. The answer is that of `round`.
-pub fn hinted(
-    words: &[u32],
-    count: usize,
-    x: &mut [u32],
-    parents: &mut [u32; PARENTS],
-    period: u32,
-    order: &[usize],
-    down: bool,
-) -> usize
-    requires { ⌜ Raising (now words) count period (now x) ⌝ }
-    ensures { λ u. ⌜ Risen maxTiming (constraints period (pairs (now (words .entry)))) (now (x .entry)) (now (x .exit)) ⌝ }
-{
-    if order.len() < count {
-        return round(words, count, x, parents, period, down);
-    }
-    in_order(words, count, x, parents, period, order, down)
+    let to = x[b];
+    raise(x, parents, a, to, p.least, rule, none)
 }

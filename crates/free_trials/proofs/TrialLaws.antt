@@ -4,7 +4,7 @@
 use Prim.Native.Nat.{ℕ, _+_, _-_, _≤_, _<_}
 use mathlib.Core.Bool.{true, false, false≢true}
 use mathlib.Core.List.{List, _++_, append-nil}
-use mathlib.Core.Path.{_≡_, ap, sym, _∙_}
+use mathlib.Core.Path.{_≡_, refl, ap, sym, _∙_}
 use native.Mathlib.Nat.{le-refl, le-trans}
 use native.Mathlib.Numerals.{add-one}
 use native.Mathlib.Omega.{arith}
@@ -31,6 +31,20 @@ use Rattle.free_trials.specs.Trial.{Trial, Judged, Tried}
 
 pub all-cleared : (x₀ : List ℕ) {x : List ℕ} → x ≡ replicate (length x₀) 0 ++ drop (length x₀) x₀ → x ≡ zeros (length x₀)
 all-cleared x₀ e = e ∙ rw (drop-length x₀, append-nil)
+
+module _ {ws : List ℕ} {n count t : ℕ} {x : List ℕ} (a : AcceptedList ws n count) (h : t ≤ maxPeriod) (e : x ≡ zeros n) where
+  -- they can be raised
+  pub zeros-raise : Raising ws count t x
+  zeros-raise =
+      record {
+        list = record { accepted = a .accepted; registersAre = ap length e ∙ length-replicate n 0 ∙ a .registersAre; pairsAre = a .pairsAre };
+        capped = rw e (zeros-below n (λ r. maxTiming));
+        period = h;
+      }
+
+  -- they are not raised yet
+  pub zeros-risen : Risen maxTiming (constraints t (pairs ws)) (zeros n) x
+  zeros-risen = record { size = ap length e; capped = zeros-raise .capped; low = λ f m b. rw e b }
 
 -- ---- a trial
 
@@ -67,6 +81,9 @@ module _ {ws : List ℕ} {count t : ℕ} {x₀ : List ℕ} (p : Trial ws count t
   under-start e =
       rw (e, p .list .registersAre)
       (record { size = length-replicate (registers ws) 0; capped = zeros-below (registers ws) (λ r. maxTiming); low = λ f m. zeros-below (registers ws) f })
+
+  pub under-risen : {y : List ℕ} → Risen maxTiming (constraints t (pairs ws)) (zeros (length x₀)) y → Under ws t y
+  under-risen o = under-turn (under-start refl) o
 
   module _ {x : List ℕ} (u : Under ws t x) where
     still-ready : AcceptedList ws (length x) count

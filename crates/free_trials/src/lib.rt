@@ -1,13 +1,20 @@
 // A trial of a period: the least schedule at it, or a longer period, below which there is none.
 // The contracts cite `specs/Trial.antt` and the laws of `free_laws`.
 ghost use mathlib.Core.Path.{_≡_};
+ghost use Prim.Native.Nat.{_≤_};
 ghost use lib.ListN.{length};
+ghost use Rattle.timing.specs.Limits.{maxPeriod, maxTiming};
 ghost use Rattle.buffers.specs.Over.{zeros};
+ghost use Rattle.list_format.specs.Lists.{pairs, AcceptedList};
+ghost use Rattle.free_laws.specs.Constraint.{constraints, Bound};
+ghost use Rattle.free_laws.specs.Raise.{Risen};
+ghost use Rattle.free_rounds.specs.Raise.{Raising};
 ghost use Rattle.free_trials.specs.Trial.{Trial, Judged, Sought, Tried};
 use free_rounds::PARENTS;
+use pair_ends::ENDS;
 
 // The parent of a register that no rule has raised.
-const NONE: u32 = 0xFFFF_FFFF;
+pub const NONE: u32 = 0xFFFF_FFFF;
 
 // All registers at 0.
 fn clear(x: &mut [u32])
@@ -43,28 +50,95 @@ fn judge(
     0
 }
 
-// A trial by so many rounds at most, in an order that is only a hint; 0 if they leave it undecided.
+// Rounds over the list before the registers are taken one by one.
+const FEW: usize = 3;
+
+// A few rounds over the list, each with raises along the parents after it; `old` keeps the times before the last of them.
+// A longer period if a cycle of parents asks for one, else 0.
+fn rounds(
+    words: &[u32],
+    count: usize,
+    x: &mut [u32],
+    parents: &mut [u32; PARENTS],
+    period: u32,
+    old: &mut [u32; PARENTS],
+) -> u32
+    requires { ⌜ Raising (now words) count period (now x) ⌝ }
+    ensures risen { λ u. ⌜ Risen maxTiming (constraints period (pairs (now (words .entry)))) (now (x .entry)) (now (x .exit)) ⌝ }
+    ensures bound { λ u. ⌜ Bound (pairs (now (words .entry))) u ⌝ }
+{
+    let mut done = 0;
+    while done < FEW {
+        free_phases::remember(x, old);
+        let last = free_rounds::round(words, count, x, parents, period, done % 2 == 1);
+        if last >= x.len() {
+            return 0;
+        }
+        let longer = free_carry::carry(words, count, x, parents, period);
+        if period < longer {
+            return longer;
+        }
+        done += 1;
+    }
+    0
+}
+
+// All registers from 0 as far up as rules are seen to ask: along the parents that are left from other periods, by a few rounds,
+// then from register to register. A longer period if a cycle of parents asks for one, else no more than this one.
+fn seek(
+    words: &[u32],
+    count: usize,
+    x: &mut [u32],
+    parents: &mut [u32; PARENTS],
+    period: u32,
+    lasts: &[u16; PARENTS],
+    before: &[u16; ENDS],
+) -> u32
+    requires { ⌜ AcceptedList (now words) (length (now x)) count × (period ≤ maxPeriod) ⌝ }
+    ensures risen { λ u. ⌜ Risen maxTiming (constraints period (pairs (now (words .entry)))) (zeros (length (now (x .entry)))) (now (x .exit)) ⌝ }
+    ensures bound { λ u. ⌜ Bound (pairs (now (words .entry))) u ⌝ }
+{
+    clear(x);
+    let kept = free_carry::carry(words, count, x, parents, period);
+    if period < kept {
+        return kept;
+    }
+    let mut old = [0u32; PARENTS];
+    let longer = rounds(words, count, x, parents, period, &mut old);
+    if period < longer {
+        return longer;
+    }
+    free_phases::settle(
+        words,
+        count,
+        x,
+        parents,
+        period,
+        lasts,
+        before,
+        &mut old,
+    )
+}
+
+// A trial that takes the parents along, a hint; 0 if it leaves the period undecided.
 pub fn quick(
     words: &[u32],
     count: usize,
     x: &mut [u32],
-    order: &[usize],
-    most: usize,
+    parents: &mut [u32; PARENTS],
+    lasts: &[u16; PARENTS],
+    before: &[u16; ENDS],
     period: u32,
 ) -> u32
     requires { ⌜ Trial (now words) count period (now x) ⌝ }
     ensures { λ r. ⌜ Sought (now (words .entry)) period (now (x .exit)) r ⌝ }
 {
-    let mut parents = [NONE; PARENTS];
-    clear(x);
-    let mut done = 0;
-    while done < most {
-        let last = free_rounds::hinted(words, count, x, &mut parents, period, order, done % 2 == 1);
-        let found = judge(words, count, x, &parents, period, last);
-        if period <= found {
-            return found;
-        }
-        done += 1;
+    let longer = seek(words, count, x, parents, period, lasts, before);
+    if period < longer {
+        return longer;
+    }
+    if checker::passes(words, count, period, x) {
+        return period;
     }
     0
 }

@@ -33,7 +33,8 @@ pub fn link(words: &[u32], count: usize, lasts: &mut [u16; REGISTERS], before: &
     }
 }
 
-fn wide(x: u16) -> usize {
+// A number of 16 bits from an array.
+pub fn wide(x: u16) -> usize {
     x as usize
 }
 

@@ -1,64 +1,42 @@
 -- `quick`: what it tells, if not below the period, is what a trial may tell; 0 leaves the period undecided.
--- Invariant `Under`: x is no later than any times that meet the rules, in whatever order it was raised. What falls: most - done.
-use Prim.Native.Nat.{_-_}
 use mathlib.Core.Path.{sym, _∙_}
 use native.Mathlib.Omega.{arith}
-use Rattle.free_trials.proofs.TrialLaws.{Under, under-start, under-turn, under-raises, under-judges, under-told}
+use Rattle.free_trials.proofs.TrialLaws.{trial-limit, under-risen, under-judges, under-told}
 use borrow.Author.Needs.{needs}
 use Rattle.free_trials.proofs.quick.Statement.{statement}
 use Rattle.free_trials.proofs.quick.Tie as tie
 
-abbrev Inv-loop : tie.InvT-loop
-Inv-loop words count x₀ order most period parents₀ done₀ x parents done = Under words period x
+seek-requires : tie.Need-seek-requires
+seek-requires c κs =
+    let p = c .before .before .before .before .pre in
+    (p .list, trial-limit p)
 
-abbrev μ-loop : tie.MeasureT-loop
-μ-loop words count x₀ order most period parents₀ done₀ x parents done = most - done
-
-loop-holds : tie.Need-loop-holds Inv-loop μ-loop
-loop-holds c = under-start (c .before .before .before .before .before .before .before .pre) (c .before .before .clear .ensures)
-
-hinted-requires : tie.Need-hinted-requires Inv-loop μ-loop
-hinted-requires c κs =
-    let l = c .before .before .before in
-    under-raises (l .before .before .before .before .before .before .before .before .pre) (l .loop .inv)
-
-judge-requires : tie.Need-judge-requires Inv-loop μ-loop
-judge-requires c κs =
-    let w = c .before .before .before .before in
-    let l = w .before .before .before .before in
-    under-judges (l .before .before .before .before .before .before .before .before .pre) (under-turn (l .loop .inv) (w .hinted .ensures))
-
-same-length : tie.Need-same-length Inv-loop μ-loop
-same-length c =
-    let w = c .before .before .before .before .before .before in
-    let l = w .before .before .before .before in
-    let p = l .before .before .before .before .before .before .before .before .pre in
-    under-turn (l .loop .inv) (w .hinted .ensures) .size ∙ sym (p .list .registersAre)
-
-returns : tie.Need-returns Inv-loop μ-loop
+returns : tie.Need-returns
 returns c =
-    let w = c .before .before .before .before .before .before in
-    let l = w .before .before .before .before in
-    let p = l .before .before .before .before .before .before .before .before .pre in
-    record { tried = under-told p (under-turn (l .loop .inv) (w .hinted .ensures)) (c .before .judge .ensures) }
+    let s = c .before .before .before in
+    let p = s .before .before .before .before .before .pre in
+    record { tried = under-told p (under-risen p (s .seek .ensures .0)) (record { bound = s .seek .ensures .1; shows = λ e. absurd (omega arith) }) }
 
-loop-less : tie.Need-loop-less Inv-loop μ-loop
-loop-less c = omega arith
+passes-requires : tie.Need-passes-requires
+passes-requires c κs =
+    let s = c .before .before .before .before in
+    let p = s .before .before .before .before .before .pre in
+    under-judges p (under-risen p (s .seek .ensures .0)) .list
 
-loop-again : tie.Need-loop-again Inv-loop μ-loop
-loop-again c =
-    let w = c .before .before .before .before .before .before in
-    under-turn (w .before .before .before .before .loop .inv) (w .hinted .ensures)
+returns-2 : tie.Need-returns-2
+returns-2 c =
+    let s = c .before .before .before .before .before .before in
+    let p = s .before .before .before .before .before .pre in
+    record {
+      tried = under-told p (under-risen p (s .seek .ensures .0))
+          (record { bound = p .bound; shows = λ e. sym (c .before .passes .ensures) ∙ c .if2 .taken });
+    }
 
-same-length-2 : tie.Need-same-length-2 Inv-loop μ-loop
-same-length-2 c = c .before .loop .inv .size ∙ sym (c .before .before .before .before .before .before .before .before .before .pre .list .registersAre)
-
-returns-2 : tie.Need-returns-2 Inv-loop μ-loop
-returns-2 c = record { tried = λ h. absurd (omega (arith, c .before .before .before .before .before .before .before .before .before .pre .pos)) }
+returns-3 : tie.Need-returns-3
+returns-3 c = record { tried = λ h. absurd (omega (arith, c .before .before .before .before .before .before .before .before .before .before .before .pre .pos)) }
 
 pub quick-spec : {M : Type 1} → statement M
 quick-spec =
     tie.close
     (tie.spec
-    Inv-loop μ-loop (λ c κs. search needs) loop-holds hinted-requires judge-requires same-length returns (λ c. search needs)
-    loop-less loop-again same-length-2 returns-2)
+    seek-requires (λ c. search needs) returns passes-requires (λ c. search needs) returns-2 (λ c. search needs) returns-3)

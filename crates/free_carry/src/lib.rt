@@ -1,0 +1,167 @@
+// Raises along parents: each register as the rule that raised it last asks, the register that the rule starts from before it.
+// The parents are a hint, kept from period to period: each rule is looked up in the list before it raises anything.
+ghost use mathlib.Core.Path.{_≡_};
+ghost use lib.ListN.{length};
+ghost use Rattle.timing.specs.Limits.{maxTiming};
+ghost use Rattle.list_format.specs.Lists.{pairCount, pairs, IsAccepted, AcceptedList};
+ghost use Rattle.free_laws.specs.Constraint.{constraints, Bound};
+ghost use Rattle.free_laws.specs.Raise.{Risen};
+ghost use Rattle.free_rounds.specs.Raise.{Raising};
+use free_rounds::PARENTS;
+use pair_ends::wide;
+use timing::larger;
+
+// The register that a rule starts from, or r where the list has no such rule.
+fn source(words: &[u32], count: usize, rule: u32, r: usize) -> usize
+    requires { ⌜ IsAccepted (now words) ⌝ }
+    requires { ⌜ count ≡ pairCount (now words) ⌝ }
+{
+    let k = (rule / 2) as usize;
+    if k >= count {
+        return r;
+    }
+    let p = delay_list::pair_at(words, k);
+    if rule % 2 == 0 {
+        return p.launch as usize;
+    }
+    p.capture as usize
+}
+
+// The register that the parent of r starts from; r itself if it has none.
+fn above(words: &[u32], count: usize, parents: &[u32; PARENTS], r: usize) -> usize
+    requires { ⌜ IsAccepted (now words) ⌝ }
+    requires { ⌜ count ≡ pairCount (now words) ⌝ }
+{
+    source(words, count, parents[r % PARENTS], r)
+}
+
+// From r up along parents to a register that has been met: each on the way is marked and put on the stack. Their count.
+fn stack_up(
+    words: &[u32],
+    count: usize,
+    parents: &[u32; PARENTS],
+    r: usize,
+    mark: u16,
+    marks: &mut [u16; PARENTS],
+    stack: &mut [u16; PARENTS],
+) -> usize
+    requires { ⌜ IsAccepted (now words) ⌝ }
+    requires { ⌜ count ≡ pairCount (now words) ⌝ }
+{
+    let mut height = 0;
+    let mut at = r % PARENTS;
+    while height < PARENTS && marks[at] == 0 {
+        marks[at] = mark;
+        stack[height] = at as u16;
+        height += 1;
+        at = above(words, count, parents, at) % PARENTS;
+    }
+    height
+}
+
+// The period that the cycle asks for which a way up has closed; 0 if it has closed none.
+fn closed(
+    words: &[u32],
+    count: usize,
+    n: usize,
+    parents: &[u32; PARENTS],
+    last: usize,
+    mark: u16,
+    marks: &[u16; PARENTS],
+) -> u32
+    requires { ⌜ AcceptedList (now words) n count ⌝ }
+    ensures { λ u. ⌜ Bound (pairs (now (words .entry))) u ⌝ }
+{
+    let to = above(words, count, parents, last);
+    if to == last {
+        return 0;
+    }
+    if to >= n {
+        return 0;
+    }
+    if marks[to % PARENTS] != mark {
+        return 0;
+    }
+    free_cycles::around(words, count, n, parents, to as u32)
+}
+
+// The registers on the stack, from the top down, each raised as its parent asks.
+fn unwind(
+    words: &[u32],
+    count: usize,
+    x: &mut [u32],
+    parents: &mut [u32; PARENTS],
+    period: u32,
+    stack: &[u16; PARENTS],
+    height: usize,
+)
+    requires { ⌜ Raising (now words) count period (now x) ⌝ }
+    ensures { λ _. ⌜ Risen maxTiming (constraints period (pairs (now (words .entry)))) (now (x .entry)) (now (x .exit)) ⌝ }
+{
+    let mut left = height;
+    while left > 0 {
+        left -= 1;
+        let r = wide(stack[left % PARENTS]);
+        let rule = parents[r % PARENTS];
+        free_rounds::apply(words, count, x, parents, period, rule);
+    }
+}
+
+// The way up from r, and down again.
+fn branch(
+    words: &[u32],
+    count: usize,
+    x: &mut [u32],
+    parents: &mut [u32; PARENTS],
+    period: u32,
+    r: usize,
+    marks: &mut [u16; PARENTS],
+    stack: &mut [u16; PARENTS],
+) -> u32
+    requires { ⌜ Raising (now words) count period (now x) ⌝ }
+    ensures risen { λ u. ⌜ Risen maxTiming (constraints period (pairs (now (words .entry)))) (now (x .entry)) (now (x .exit)) ⌝ }
+    ensures bound { λ u. ⌜ Bound (pairs (now (words .entry))) u ⌝ }
+{
+    let mark = ((r % PARENTS) as u16) + 1;
+    let height = stack_up(words, count, parents, r, mark, marks, stack);
+    if height == 0 {
+        return 0;
+    }
+    let last = wide(stack[(height - 1) % PARENTS]);
+    let longer = closed(words, count, x.len(), parents, last, mark, marks);
+    unwind(words, count, x, parents, period, stack, height);
+    longer
+}
+
+// Every register raised as its parent asks. The longest period that a cycle of parents asks for, or 0.
+pub fn carry(
+    words: &[u32],
+    count: usize,
+    x: &mut [u32],
+    parents: &mut [u32; PARENTS],
+    period: u32,
+) -> u32
+    requires { ⌜ Raising (now words) count period (now x) ⌝ }
+    ensures risen { λ u. ⌜ Risen maxTiming (constraints period (pairs (now (words .entry)))) (now (x .entry)) (now (x .exit)) ⌝ }
+    ensures bound { λ u. ⌜ Bound (pairs (now (words .entry))) u ⌝ }
+{
+    let mut marks = [0u16; PARENTS];
+    let mut stack = [0u16; PARENTS];
+    let mut most = 0;
+    let mut r = 0;
+    while r < x.len() {
+        let longer = branch(
+            words,
+            count,
+            x,
+            parents,
+            period,
+            r,
+            &mut marks,
+            &mut stack,
+        );
+        most = larger(most, longer);
+        r += 1;
+    }
+    most
+}
