@@ -22,7 +22,7 @@ use Rattle.split_laws.specs.Split.{nothing, found, timeOf, timings, meets, work
 use Rattle.split_laws.specs.Marks.{keeps}
 use Rattle.split_laws.proofs.FirstLaws.{NoLater, least-first}
 use Rattle.split_laws.proofs.ClosureLaws.{works-each, each-works, first-none}
-use Rattle.plan_laws.specs.Reach.{reachOf, Forces, Reaches, ahead, behind, ReachClosed, reachPeriod, lateAbove}
+use Rattle.plan_laws.specs.Reach.{reachOf, Forces, Reaches, ahead, behind, ReachClosed, reachPeriod, lateAbove, NoneBelow}
 
 -- ---- what the four choices ask of a pair at period t and offset top - t
 
@@ -149,6 +149,11 @@ module _ (start : ℕ) (W : List ℕ) where
       go : (x : Bool) → ltb t (min (reachOf W (q .launch)) (q .greatest)) ≡ x → (t < reachPeriod start qs W → ⊥) → ⊥
       go true e later = none-below top ps W s q (of .0) t (ltb-true t (min (reachOf W (q .launch)) (q .greatest)) e) c w
       go false e later = later (omega (arith, ltb-false t (min (reachOf W (q .launch)) (q .greatest)) e))
+
+-- counted from 0, no split works below it: every register may be raised to it
+pub none-asked : (top : ℕ) (ps : List Pair) (W : List ℕ) → Each (λ p. p .greatest ≤ top) ps → Reaches top ps W → NoneBelow top ps (reachPeriod 0 ps W)
+none-asked top ps W u s =
+    record { under = period-upto 0 W top ps zero-le u; none = λ t l. period-none 0 W top ps ps s (pairs-of top ps u) t zero-le l }
 
 -- ---- the split that reaches give
 

@@ -11,7 +11,7 @@ use lib.ListN.{length, set, length-set}
 use lib.Seq.{getD-set-same, getD-set-other}
 use Rattle.timing.specs.declared.Pair.{Pair}
 use Rattle.timing.specs.Rules.{InRange}
-use Rattle.plan_laws.specs.Reach.{reachOf, Forces, Reaches, ahead, behind, ReachClosed, Rose, Raised, room, ReachTold, ReachStep}
+use Rattle.plan_laws.specs.Reach.{reachOf, Forces, Reaches, ahead, behind, ReachClosed, NoneBelow, Rose, Raised, room, ReachTold, ReachStep}
 use Rattle.plan_laws.proofs.ReachLaws.{PairOf, ahead-under, behind-under, ahead-forces, behind-forces}
 
 room-set : (top : ℕ) (W : List ℕ) (r v : ℕ) → r < length W → reachOf W r < v → v ≤ top → room top (set W r v) < room top W
@@ -64,24 +64,35 @@ module _ {top : ℕ} {ps : List Pair} where
   step-raise W r v true W′ s l h f x =
       rw (x .0) (record { size = length-set W r v; reaches = reaches-set W r v s l h f; told = room-set top W r v l (x .1) h })
 
-  -- ---- a pair: its capture is raised, then its launch
+  -- where no split works below v, each register may be raised to it
+  pub step-lift : {v : ℕ} → NoneBelow top ps v → {W W′ : List ℕ} {r : ℕ} → r < length W → Reaches top ps W → {x : Bool} → Raised r v W W′ x
+      → ReachStep top ps (λ X. v ≤ reachOf X r) W W′ x
+  step-lift {v} n {W} {W′} {r} l s {x} a = step-raise W r v x W′ s l (n .under) (λ t h c w. absurd (n .none t h c w)) (a .rose)
 
-  -- both raises are to what is forced, so the reaches stay reaches; where neither moved, the pair is closed
+  -- ---- a pair: its capture is raised, its launch, or one and then the other
 
-  pub pair-step : {p : Pair} → PairOf top ps p → {W M W′ : List ℕ} → InRange (length W) p → Reaches top ps W → {x y o : Bool}
-      → Raised (p .capture) (ahead top p W) W M x → Raised (p .launch) (behind top p M) M W′ y → o ≡ (x || y)
-      → ReachStep top ps (λ X. ReachClosed top X p) W W′ o
-  pair-step {p} of {W} {M} {W′} inside s {x} {y} a b e =
-      let under = ahead-under top ps W s p of in
-      let one = step-raise W (p .capture) (ahead top p W) x M s (inside .capture) under (ahead-forces top ps W s p of) (a .rose) in
-      let s′ = one .reaches in
-      let there : p .launch < length M = rw (one .size) (inside .launch) in
-      let under′ = behind-under top ps M s′ p of in
-      let two = step-raise M (p .launch) (behind top p M) y W′ s′ there under′ (behind-forces top ps M s′ p of) (b .rose) in
-      rw e (both x (a .rose) (step-then refl one two))
-    where
-      both : (x : Bool) → Rose x (p .capture) (ahead top p W) W M
-          → ReachStep top ps (λ X. (ahead top p W ≤ reachOf X (p .capture)) × (behind top p M ≤ reachOf X (p .launch))) W W′ (x || y)
-          → ReachStep top ps (λ X. ReachClosed top X p) W W′ (x || y)
-      both false r h = step-with (λ d. record { capture = d .0; launch = subst (λ (X : List ℕ). behind top p X ≤ reachOf W (p .launch)) (r .0) (d .1) }) h
-      both true r h = record { size = h .size; reaches = h .reaches; told = h .told }
+  module _ {p : Pair} (of : PairOf top ps p) where
+    pub step-ahead : {W W′ : List ℕ} → InRange (length W) p → Reaches top ps W → {x : Bool} → Raised (p .capture) (ahead top p W) W W′ x
+        → ReachStep top ps (λ X. ahead top p W ≤ reachOf X (p .capture)) W W′ x
+    step-ahead {W} {W′} inside s {x} a =
+        step-raise W (p .capture) (ahead top p W) x W′ s (inside .capture) (ahead-under top ps W s p of) (ahead-forces top ps W s p of) (a .rose)
+
+    pub step-behind : {W W′ : List ℕ} → InRange (length W) p → Reaches top ps W → {x : Bool} → Raised (p .launch) (behind top p W) W W′ x
+        → ReachStep top ps (λ X. behind top p W ≤ reachOf X (p .launch)) W W′ x
+    step-behind {W} {W′} inside s {x} a =
+        step-raise W (p .launch) (behind top p W) x W′ s (inside .launch) (behind-under top ps W s p of) (behind-forces top ps W s p of) (a .rose)
+
+    -- both raises are to what is forced, so the reaches stay reaches; where neither moved, the pair is closed
+    pub pair-step : {W M W′ : List ℕ} → InRange (length W) p → Reaches top ps W → {x y o : Bool}
+        → Raised (p .capture) (ahead top p W) W M x → Raised (p .launch) (behind top p M) M W′ y → o ≡ (x || y)
+        → ReachStep top ps (λ X. ReachClosed top X p) W W′ o
+    pair-step {W} {M} {W′} inside s {x} {y} a b e =
+        let one = step-ahead inside s a in
+        let there : InRange (length M) p = record { launch = rw (one .size) (inside .launch); capture = rw (one .size) (inside .capture) } in
+        rw e (both x (a .rose) (step-then refl one (step-behind there (one .reaches) b)))
+      where
+        both : (x : Bool) → Rose x (p .capture) (ahead top p W) W M
+            → ReachStep top ps (λ X. (ahead top p W ≤ reachOf X (p .capture)) × (behind top p M ≤ reachOf X (p .launch))) W W′ (x || y)
+            → ReachStep top ps (λ X. ReachClosed top X p) W W′ (x || y)
+        both false r h = step-with (λ d. record { capture = d .0; launch = subst (λ (X : List ℕ). behind top p X ≤ reachOf W (p .launch)) (r .0) (d .1) }) h
+        both true r h = record { size = h .size; reaches = h .reaches; told = h .told }

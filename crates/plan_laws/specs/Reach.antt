@@ -24,6 +24,11 @@ pub record Reaches (top : ℕ) (ps : List Pair) (W : List ℕ) : Type 0 where
   pub under : (r : ℕ) → reachOf W r ≤ top
   pub late : (r : ℕ) → Forces top ps r (reachOf W r)
 
+-- below v, which is not above top, no split works
+pub record NoneBelow (top : ℕ) (ps : List Pair) (v : ℕ) : Type 0 where
+  pub under : v ≤ top
+  pub none : (t : ℕ) → t < v → (c : List Bool) → works t (top - t) ps c ≡ true → ⊥
+
 -- ---- how far a pair takes its ends
 
 -- its capture: below the greatest delay only a late one meets setup; below half of that and top, with a late launch, too

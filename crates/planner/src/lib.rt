@@ -7,6 +7,8 @@ ghost use Rattle.planner.specs.PlanCall.{planCallChecks, PlanAllowed, Tw
 ghost use Rattle.list_format.specs.Lists.{registers, pairs};
 ghost use Rattle.free_laws.specs.Free.{common as commonOf, freePeriod};
 use list_format::Verdict;
+use pair_ends::ENDS;
+use pair_ends::REGISTERS;
 use refusals::Fault;
 
 // The common, the free and the two-timing period and the offset, or a refusal with its place.
@@ -26,13 +28,15 @@ fn call_fault(n: u32, m: u32, room: usize, spare: usize) -> Fault
 }
 
 // The two-timing period of an accepted list with that common and that free period; the split's timings fill n places from
-// place n on. The first n places of the scratch are used.
+// place n on. The first n places of the scratch are used. The ends of the pairs at each register are a hint.
 fn fill_split(
     words: &[u32],
     n: usize,
     m: usize,
     common: u32,
     free: u32,
+    lasts: &[u16; REGISTERS],
+    before: &[u16; ENDS],
     answer: &mut [u32],
     scratch: &mut [u32],
 ) -> u32
@@ -40,7 +44,7 @@ fn fill_split(
         × (free ≡ freePeriod (registers (now words)) (pairs (now words))) ⌝ }
     ensures { λ r. ⌜ TwoIn (now (words .entry)) n (now (answer .entry)) (now (answer .exit)) (now (scratch .entry)) (now (scratch .exit)) r ⌝ }
 {
-    let two = reach::two_period(words, m, common, free - 1, &mut scratch[..n]);
+    let two = reach::two_period(words, m, common, free - 1, lasts, before, &mut scratch[..n]);
     reach::write_split(scratch, n, two, common - two, answer);
     two
 }
@@ -50,10 +54,13 @@ fn show(words: &[u32], n: usize, m: usize, answer: &mut [u32], scratch: &mut [u3
     requires { ⌜ PlanAllowed (now words) n m (length (now answer)) (length (now scratch)) ⌝ }
     ensures { λ r. ⌜ PlanAs (now (words .entry)) (now (answer .entry)) (now (answer .exit)) (now (scratch .entry)) (now (scratch .exit)) r ⌝ }
 {
+    let mut lasts = [0u16; REGISTERS];
+    let mut before = [0u16; ENDS];
     let end = timing::scratch_places(n, m);
+    pair_ends::link(words, m, &mut lasts, &mut before);
     let common = free_climb::common(words, m);
     let free = free_schedule::fill(words, n, m, answer);
-    let two = fill_split(words, n, m, common, free, answer, scratch);
+    let two = fill_split(words, n, m, common, free, &lasts, &before, answer, scratch);
     buffers::clear(scratch, end);
     let offset = common - two;
     Planning::Planned(common, free, two, offset)

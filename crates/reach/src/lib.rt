@@ -12,8 +12,10 @@ ghost use Rattle.list_format.specs.Lists.{pairs, AcceptedList};
 ghost use Rattle.free_laws.specs.Free.{common};
 ghost use Rattle.free_laws.specs.Constraint.{Bound};
 ghost use Rattle.split_laws.specs.Split.{timeOf, timings};
-ghost use Rattle.plan_laws.specs.Reach.{reachOf, ahead, behind, reachPeriod, lateAbove, Raised, ReachStep};
+ghost use Rattle.plan_laws.specs.Reach.{reachOf, ahead, behind, reachPeriod, lateAbove, NoneBelow, Raised, ReachStep};
 ghost use Rattle.reach.specs.Settling.{PairReaching, Reaching, ClosedAt, ClosedAll, Swept, Reached};
+use pair_ends::ENDS;
+use pair_ends::REGISTERS;
 use timing::Pair;
 use timing::larger;
 use timing::smaller;
@@ -104,12 +106,12 @@ fn asked(p: Pair, reach: &[u32]) -> u32
     smaller(reach[p.launch as usize], p.greatest)
 }
 
-// The longest such period, or 1.
-fn period(words: &[u32], count: usize, reach: &[u32]) -> u32
+// The longest such period, or `start`.
+fn period(words: &[u32], count: usize, start: u32, reach: &[u32]) -> u32
     requires { ⌜ AcceptedList (now words) (length (now reach)) count ⌝ }
-    ensures { λ r. ⌜ r ≡ reachPeriod 1 (pairs (now (words .entry))) (now (reach .entry)) ⌝ }
+    ensures { λ r. ⌜ r ≡ reachPeriod start (pairs (now (words .entry))) (now (reach .entry)) ⌝ }
 {
-    let mut most = 1;
+    let mut most = start;
     let mut k = 0;
     while k < count {
         let p = delay_list::pair_at(words, k);
@@ -119,16 +121,261 @@ fn period(words: &[u32], count: usize, reach: &[u32]) -> u32
     most
 }
 
+// Every register has at least the reach v, below which no split works.
+fn lift(words: &[u32], count: usize, top: u32, v: u32, reach: &mut [u32])
+    requires { ⌜ Reaching (now words) count top (now reach) × NoneBelow top (pairs (now words)) v ⌝ }
+    ensures { λ _. ⌜ Reaching (now (words .entry)) count top (now (reach .exit)) ⌝ }
+{
+    let mut r = 0;
+    while r < reach.len() {
+        raise(reach, r, v);
+        r += 1;
+    }
+}
+
+// The guide raises reaches in the order of a heap, the largest first. Its order is a hint, by which the sweeps find nothing left
+// to raise; each stays a reach.
+
+// What came of a raise along a pair: the register, whether it was raised, and the period that the pair asks for.
+pub struct Along {
+    pub register: usize,
+    pub raised: bool,
+    pub asks: u32,
+}
+
+// The longest period that a pair was seen to ask for, and how many registers are in the heap.
+pub struct Waiting {
+    pub most: u32,
+    pub size: usize,
+}
+
+// The capture of pair k is raised.
+fn go_ahead(words: &[u32], count: usize, k: usize, top: u32, reach: &mut [u32]) -> Along
+    requires { ⌜ Reaching (now words) count top (now reach) × (k < count) ⌝ }
+    ensures { λ _. ⌜ Reaching (now (words .entry)) count top (now (reach .exit)) ⌝ }
+{
+    let p = delay_list::pair_at(words, k);
+    let raised = raise_capture(p, top, reach);
+    let asks = asked(p, reach);
+    Along {
+        register: p.capture as usize,
+        raised: raised,
+        asks: asks,
+    }
+}
+
+// The launch of pair k is raised.
+fn go_back(words: &[u32], count: usize, k: usize, top: u32, reach: &mut [u32]) -> Along
+    requires { ⌜ Reaching (now words) count top (now reach) × (k < count) ⌝ }
+    ensures { λ _. ⌜ Reaching (now (words .entry)) count top (now (reach .exit)) ⌝ }
+{
+    let p = delay_list::pair_at(words, k);
+    let raised = raise_launch(p, top, reach);
+    Along {
+        register: p.launch as usize,
+        raised: raised,
+        asks: 0,
+    }
+}
+
+// From one end of pair k to the other.
+fn cross(words: &[u32], count: usize, k: usize, launch: bool, top: u32, reach: &mut [u32]) -> Along
+    requires { ⌜ Reaching (now words) count top (now reach) × (k < count) ⌝ }
+    ensures { λ _. ⌜ Reaching (now (words .entry)) count top (now (reach .exit)) ⌝ }
+{
+    if launch {
+        go_ahead(words, count, k, top, reach)
+    } else {
+        go_back(words, count, k, top, reach)
+    }
+}
+
+// Every capture is raised; the longest period that a pair was seen to ask for.
+fn begin(words: &[u32], count: usize, top: u32, reach: &mut [u32]) -> u32
+    requires { ⌜ Reaching (now words) count top (now reach) ⌝ }
+    ensures { λ _. ⌜ Reaching (now (words .entry)) count top (now (reach .exit)) ⌝ }
+{
+    let mut most = 0;
+    let mut k = 0;
+    while k < count {
+        let a = go_ahead(words, count, k, top, reach);
+        most = larger(most, a.asks);
+        k += 1;
+    }
+    most
+}
+
+// What the pair asks for is seen, and a register that was raised to above the longest goes in the heap.
+fn enter(
+    a: Along,
+    w: Waiting,
+    reach: &[u32],
+    line: &mut [u16; REGISTERS],
+    place: &mut [u16; REGISTERS],
+) -> Waiting {
+    let r = a.register;
+    let mut next = w;
+    next.most = larger(w.most, a.asks);
+    if !a.raised {
+        return next;
+    }
+    if r >= reach.len() {
+        return next;
+    }
+    if reach[r] <= next.most {
+        return next;
+    }
+    next.size = register_heap::put(reach, line, place, w.size, r);
+    next
+}
+
+// The heap of the registers with a reach above the longest period seen.
+fn gather(
+    most: u32,
+    reach: &[u32],
+    line: &mut [u16; REGISTERS],
+    place: &mut [u16; REGISTERS],
+) -> Waiting {
+    let mut now = Waiting {
+        most: most,
+        size: 0,
+    };
+    let mut r = 0;
+    while r < reach.len() {
+        let a = Along {
+            register: r,
+            raised: true,
+            asks: 0,
+        };
+        now = enter(a, now, reach, line, place);
+        r += 1;
+    }
+    now
+}
+
+// Along the ends at register r, from each to the register across.
+fn visit(
+    words: &[u32],
+    count: usize,
+    top: u32,
+    r: usize,
+    lasts: &[u16; REGISTERS],
+    before: &[u16; ENDS],
+    w: Waiting,
+    reach: &mut [u32],
+    line: &mut [u16; REGISTERS],
+    place: &mut [u16; REGISTERS],
+) -> Waiting
+    requires { ⌜ Reaching (now words) count top (now reach) ⌝ }
+    ensures { λ _. ⌜ Reaching (now (words .entry)) count top (now (reach .exit)) ⌝ }
+{
+    let mut now = w;
+    let mut end = pair_ends::last_at(lasts, r);
+    while end > 0 {
+        let k = (end - 1) / 2;
+        if k >= count {
+            return now;
+        }
+        let a = cross(words, count, k, end % 2 == 1, top, reach);
+        now = enter(a, now, reach, line, place);
+        end = pair_ends::end_before(before, end);
+    }
+    now
+}
+
+// The register in the heap with the largest reach, if that is above the period seen; else REGISTERS.
+fn largest(w: Waiting, reach: &[u32], line: &[u16; REGISTERS]) -> usize {
+    if w.size == 0 {
+        return REGISTERS;
+    }
+    let r = register_heap::register_at(line, 0);
+    if r >= reach.len() {
+        return REGISTERS;
+    }
+    if reach[r] <= w.most {
+        return REGISTERS;
+    }
+    r
+}
+
+// Registers are taken from the heap and visited, each once: no raise is to above the reach of the one that was taken.
+fn follow(
+    words: &[u32],
+    count: usize,
+    top: u32,
+    lasts: &[u16; REGISTERS],
+    before: &[u16; ENDS],
+    w: Waiting,
+    reach: &mut [u32],
+    line: &mut [u16; REGISTERS],
+    place: &mut [u16; REGISTERS],
+)
+    requires { ⌜ Reaching (now words) count top (now reach) ⌝ }
+    ensures { λ _. ⌜ Reaching (now (words .entry)) count top (now (reach .exit)) ⌝ }
+{
+    let mut now = w;
+    let mut left = reach.len();
+    while left > 0 {
+        left -= 1;
+        let r = largest(now, reach, line);
+        if r >= REGISTERS {
+            return;
+        }
+        now.size = register_heap::remove(reach, line, place, now.size, r);
+        now = visit(words, count, top, r, lasts, before, now, reach, line, place);
+    }
+}
+
+// The heap from its filling until nothing in it is above the period seen.
+fn guide(
+    words: &[u32],
+    count: usize,
+    top: u32,
+    reach: &mut [u32],
+    lasts: &[u16; REGISTERS],
+    before: &[u16; ENDS],
+)
+    requires { ⌜ Reaching (now words) count top (now reach) ⌝ }
+    ensures { λ _. ⌜ Reaching (now (words .entry)) count top (now (reach .exit)) ⌝ }
+{
+    let mut line = [0u16; REGISTERS];
+    let mut place = [0u16; REGISTERS];
+    let most = begin(words, count, top, reach);
+    let w = gather(most, reach, &mut line, &mut place);
+    follow(
+        words,
+        count,
+        top,
+        lasts,
+        before,
+        w,
+        reach,
+        &mut line,
+        &mut place,
+    );
+}
+
 // The two-timing period of an accepted list with the common period `top` and a free period above `floor`; the reaches are left
-// in the n places lent.
-pub fn two_period(words: &[u32], count: usize, top: u32, floor: u32, reach: &mut [u32]) -> u32
+// in the n places lent. `lasts` and `before` are the ends of the pairs at each register, as a hint.
+pub fn two_period(
+    words: &[u32],
+    count: usize,
+    top: u32,
+    floor: u32,
+    lasts: &[u16; REGISTERS],
+    before: &[u16; ENDS],
+    reach: &mut [u32],
+) -> u32
     requires { ⌜ AcceptedList (now words) (length (now reach)) count × (top ≡ common (pairs (now words))) × Bound (pairs (now words)) (floor + 1) ⌝ }
     ensures { λ r. ⌜ Reached (now (words .entry)) (now (reach .exit)) r ⌝ }
 {
     let n = reach.len();
     buffers::level(reach, n, floor);
+    guide(words, count, top, reach, lasts, before);
+    let most = period(words, count, 0, reach);
+    lift(words, count, top, most, reach);
     settle(words, count, top, reach);
-    period(words, count, reach)
+    period(words, count, 1, reach)
 }
 
 // The offset where the reach is above the period, else 0.

@@ -1,10 +1,10 @@
 -- `settle`: reaches that no pair raises further.
 -- Invariant `Reaching`: each is a reach of its register. What falls: `room`, which a sweep that raised something leaves smaller.
-use mathlib.Core.Path.{sym, _∙_}
+use mathlib.Core.Path.{_∙_}
 use borrow.Author.Tests.{not-true, not-false}
 use Rattle.plan_laws.specs.Reach.{room}
 use Rattle.reach.specs.Settling.{Reaching}
-use Rattle.reach.proofs.SweepLaws.{reaching-then, swept, sweep-less}
+use Rattle.reach.proofs.SweepLaws.{reaching-then, same-size, swept, sweep-less}
 use Rattle.reach.proofs.settle.Statement.{statement}
 use Rattle.reach.proofs.settle.Tie as tie
 
@@ -23,7 +23,7 @@ sweep-requires c κs = c .before .loop .inv
 same-length : tie.Need-same-length Inv-loop μ-loop
 same-length c =
     let w = c .before .before .before in
-    w .sweep .ensures .size ∙ w .before .before .loop .inv .list .registersAre ∙ sym (w .before .before .before .before .before .pre .list .registersAre)
+    w .sweep .ensures .size ∙ same-size (w .before .before .before .before .before .pre) (w .before .before .loop .inv)
 
 returns : tie.Need-returns Inv-loop μ-loop
 returns c =
