@@ -9,16 +9,15 @@ ghost use Rattle.free_laws.specs.Free.{common as commonOf};
 ghost use Rattle.free_laws.specs.Constraint.{Bound};
 ghost use Rattle.free_trials.specs.Trial.{Trial};
 ghost use Rattle.free_climb.specs.Climbed.{Alone, Climbed, Ascended};
-use timing::MAX_PAIRS;
+use free_trials::NONE;
+use pair_ends::ENDS;
+use pair_ends::REGISTERS;
 use timing::Pair;
 use timing::larger;
 use timing::less;
 
 // The shortest period.
 const SHORTEST: u32 = 1;
-
-// Rounds of a trial before the pairs are put in another order.
-const FEW: usize = 7;
 
 // What a pair alone asks of the period. One that joins a register to itself has no times to shift.
 fn alone(p: Pair) -> u32
@@ -69,23 +68,24 @@ pub enum Ascent {
     Undecided(u32),
 }
 
-// Trials of longer and longer periods, by so many rounds each at most, in an order that is only a hint.
+// Trials of longer and longer periods, each with the parents that the one before it left.
 fn ascend(
     words: &[u32],
     count: usize,
     x: &mut [u32],
-    order: &[usize],
-    most: usize,
+    lasts: &[u16; REGISTERS],
+    before: &[u16; ENDS],
     start: u32,
 ) -> Ascent
     requires { ⌜ Trial (now words) count start (now x) ⌝ }
     ensures { λ r. ⌜ Ascended (now (words .entry)) (now (x .exit)) r ⌝ }
 {
+    let mut parents = [NONE; REGISTERS];
     let mut period = start;
-    let mut next = free_trials::quick(words, count, x, order, most, period);
+    let mut next = free_trials::quick(words, count, x, &mut parents, lasts, before, period);
     while period < next {
         period = next;
-        next = free_trials::quick(words, count, x, order, most, period);
+        next = free_trials::quick(words, count, x, &mut parents, lasts, before, period);
     }
     if next < period {
         return Ascent::Undecided(period);
@@ -107,27 +107,19 @@ fn finish(words: &[u32], count: usize, x: &mut [u32], start: u32) -> u32
     period
 }
 
-// The climb in the order of a tour along the pairs.
-fn ordered(words: &[u32], count: usize, x: &mut [u32], start: u32) -> u32
-    requires { ⌜ Trial (now words) count start (now x) ⌝ }
-    ensures { λ r. ⌜ Climbed (now (words .entry)) (now (x .exit)) r ⌝ }
-{
-    let mut order = [0usize; MAX_PAIRS];
-    free_order::lay_out(words, count, x.len(), &mut order);
-    match ascend(words, count, x, &order, x.len(), start) {
-        Ascent::Done(period) => period,
-        Ascent::Undecided(period) => finish(words, count, x, period),
-    }
-}
-
-// The free period; the free schedule fills x. A few rounds in the order of the list are enough for most lists.
-pub fn climb(words: &[u32], count: usize, x: &mut [u32]) -> u32
+// The free period; the free schedule fills x.
+pub fn climb(
+    words: &[u32],
+    count: usize,
+    x: &mut [u32],
+    lasts: &[u16; REGISTERS],
+    before: &[u16; ENDS],
+) -> u32
     requires { ⌜ AcceptedList (now words) (length (now x)) count ⌝ }
     ensures { λ r. ⌜ Climbed (now (words .entry)) (now (x .exit)) r ⌝ }
 {
-    let none = [0usize; 1];
-    match ascend(words, count, x, &none, FEW, lowest(words, count)) {
+    match ascend(words, count, x, lasts, before, lowest(words, count)) {
         Ascent::Done(period) => period,
-        Ascent::Undecided(period) => ordered(words, count, x, period),
+        Ascent::Undecided(period) => finish(words, count, x, period),
     }
 }

@@ -3,6 +3,8 @@
 ghost use Rattle.list_format.specs.Lists.{AcceptedList};
 ghost use Rattle.free_schedule.specs.FreeCall.{FreeAs, Roomy, FreeIn};
 use list_format::Verdict;
+use pair_ends::ENDS;
+use pair_ends::REGISTERS;
 
 // The common and the free period, or a refusal with its place.
 pub enum FreeAnswer {
@@ -10,12 +12,19 @@ pub enum FreeAnswer {
     Refused(u32, usize),
 }
 
-// The free period of an accepted list of n registers; the free schedule fills the first n places.
-pub fn fill(words: &[u32], n: usize, count: usize, answer: &mut [u32]) -> u32
+// The free period of an accepted list of n registers, with the ends of its pairs; the free schedule fills the first n places.
+pub fn fill(
+    words: &[u32],
+    n: usize,
+    count: usize,
+    lasts: &[u16; REGISTERS],
+    before: &[u16; ENDS],
+    answer: &mut [u32],
+) -> u32
     requires { ⌜ Roomy (now words) n count (now answer) ⌝ }
     ensures { λ r. ⌜ FreeIn (now (words .entry)) (now (answer .entry)) (now (answer .exit)) r ⌝ }
 {
-    free_climb::climb(words, count, &mut answer[..n])
+    free_climb::climb(words, count, &mut answer[..n], lasts, before)
 }
 
 // The answer for an accepted list of n registers.
@@ -26,8 +35,11 @@ fn settle(words: &[u32], n: usize, count: usize, answer: &mut [u32]) -> FreeAnsw
     if answer.len() < n {
         return FreeAnswer::Refused(2, 0);
     }
+    let mut lasts = [0u16; REGISTERS];
+    let mut before = [0u16; ENDS];
+    pair_ends::link(words, count, &mut lasts, &mut before);
     let common = free_climb::common(words, count);
-    let free = fill(words, n, count, answer);
+    let free = fill(words, n, count, &lasts, &before, answer);
     FreeAnswer::Periods(common, free)
 }
 

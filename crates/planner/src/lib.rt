@@ -59,7 +59,7 @@ fn show(words: &[u32], n: usize, m: usize, answer: &mut [u32], scratch: &mut [u3
     let end = timing::scratch_places(n, m);
     pair_ends::link(words, m, &mut lasts, &mut before);
     let common = free_climb::common(words, m);
-    let free = free_schedule::fill(words, n, m, answer);
+    let free = free_schedule::fill(words, n, m, &lasts, &before, answer);
     let two = fill_split(words, n, m, common, free, &lasts, &before, answer, scratch);
     buffers::clear(scratch, end);
     let offset = common - two;

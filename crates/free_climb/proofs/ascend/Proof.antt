@@ -12,10 +12,10 @@ use Rattle.free_climb.proofs.ascend.Statement.{statement}
 use Rattle.free_climb.proofs.ascend.Tie as tie
 
 abbrev Inv-loop : tie.InvT-loop
-Inv-loop words count x₀ order most start period₀ next₀ x period next = Climbing words period x next
+Inv-loop words count x₀ lasts before start parents₀ period₀ next₀ x parents period next = Climbing words period x next
 
 abbrev μ-loop : tie.MeasureT-loop
-μ-loop words count x₀ order most start period₀ next₀ x period next = common (pairs words) + 1 - period
+μ-loop words count x₀ lasts before start parents₀ period₀ next₀ x parents period next = common (pairs words) + 1 - period
 
 loop-holds : tie.Need-loop-holds Inv-loop μ-loop
 loop-holds c =
@@ -24,12 +24,12 @@ loop-holds c =
 
 quick-requires-2 : tie.Need-quick-requires-2 Inv-loop μ-loop
 quick-requires-2 c κs =
-    let l = c .before in
+    let l = c .before .before in
     climbing-tries (l .before .before .before .before .before .before .before .before .before .pre .list) (l .before .loop .inv) (l .loop-test .taken)
 
 loop-less : tie.Need-loop-less Inv-loop μ-loop
 loop-less c =
-    let l = c .before .before .before .before in
+    let l = c .before .before .before .before .before in
     let i = l .before in
     let trial = climbing-tries (i .before .before .before .before .before .before .before .before .pre .list) (i .loop .inv) (l .loop-test .taken) in
     omega (arith, bound-common (trial .bound))
@@ -37,7 +37,7 @@ loop-less c =
 loop-again : tie.Need-loop-again Inv-loop μ-loop
 loop-again c =
     let w = c .before .before in
-    let l = w .before .before in
+    let l = w .before .before .before in
     let i = l .before in
     let trial = climbing-tries (i .before .before .before .before .before .before .before .before .pre .list) (i .loop .inv) (l .loop-test .taken) in
     climbing-after trial (w .quick2 .kept .1 .1 .0) (w .quick2 .ensures)

@@ -1,13 +1,13 @@
--- `climb`: quick trials in the order of the list, and from a period that they leave undecided the climb of `ordered`.
+-- `climb`: quick trials, and from a period that they leave undecided the climb of `finish`.
 use mathlib.Core.Path.{_∙_}
 use Rattle.free_climb.proofs.ClimbLaws.{trial-of}
 use borrow.Author.Needs.{needs}
 use Rattle.free_climb.proofs.climb.Statement.{statement}
 use Rattle.free_climb.proofs.climb.Tie as tie
 
-ordered-requires : tie.Need-ordered-requires
-ordered-requires c κs =
-    let r = c .before .before .before .before .before .before .before .before .before .before .before .before .pre in
+finish-requires : tie.Need-finish-requires
+finish-requires c κs =
+    let r = c .before .before .before .before .before .before .before .before .before .before .before .pre in
     let a = c .before .before .before .before .before .before .ascend in
     let u = a .ensures .undecided _ (c .before .before .period2 .given .1) in
     trial-of r (a .kept .1 .1 .0 ∙ r .registersAre) (u .0) (u .1)
@@ -19,5 +19,5 @@ pub climb-spec : {M : Type 1} → statement M
 climb-spec =
     tie.close
     (tie.spec
-    (λ c. search needs) (λ c κs. search needs) (λ c κs. search needs) (λ c. search needs) (λ c. search needs) ordered-requires
+    (λ c κs. search needs) (λ c κs. search needs) (λ c. search needs) (λ c. search needs) finish-requires
     (λ c. search needs) returns (λ c. search needs) (λ c. search needs))

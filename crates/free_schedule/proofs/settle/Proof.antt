@@ -12,9 +12,12 @@ returns c =
 
 returns-2 : tie.Need-returns-2
 returns-2 c =
-    let w = c .before .before .before .before in
-    let i = w .before in
+    let w = c .before .before .before .before .before .before in
+    let i = w .before .before .before .before in
     settled (record { list = i .before .before .before .pre; room = i .if1 .left }) (w .common .ensures) (c .before .before .fill .ensures)
 
 pub settle-spec : {M : Type 1} → statement M
-settle-spec = tie.close (tie.spec returns (λ c κs. search needs) (λ c κs. search needs) (λ c. search needs) returns-2)
+settle-spec =
+    tie.close
+    (tie.spec
+    returns (λ c κs. search needs) (λ c κs. search needs) (λ c κs. search needs) (λ c. search needs) returns-2)

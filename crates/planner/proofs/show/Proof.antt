@@ -8,26 +8,26 @@ use Rattle.planner.proofs.show.Tie as tie
 fill-split-requires : tie.Need-fill-split-requires
 fill-split-requires c κs =
     let f = c .before .before .before .before .before .before in
-    let sized = f .before .before .before .before .before .before in
+    let sized = f .before .before .before .before .before .before .before .before in
     let b = sized .before .before .before .before in
-    (allowed-kept (b .pre) (f .fill .kept .1 .1 .1 .0), f .before .before .common .ensures, f .fill .ensures .period)
+    (allowed-kept (b .pre) (f .fill .kept .1 .1 .1 .1 .1 .0), f .before .before .before .before .common .ensures, f .fill .ensures .period)
 
 sub-offset : tie.Need-sub-offset
 sub-offset c =
     let t = c .before .before .before .before .before .before .before .before in
     let f = t .before .before .before .before .before .before .before in
-    let sized = f .before .before .before .before .before .before in
+    let sized = f .before .before .before .before .before .before .before .before in
     let b = sized .before .before .before .before in
-    two-fits (now (b .args .words)) (f .before .before .common .ensures) (t .fill-split .ensures .period)
+    two-fits (now (b .args .words)) (f .before .before .before .before .common .ensures) (t .fill-split .ensures .period)
 
 returns : tie.Need-returns
 returns c =
     let t = c .before .before .before .before .before .before .before .before in
     let f = t .before .before .before .before .before .before .before in
-    let sized = f .before .before .before .before .before .before in
+    let sized = f .before .before .before .before .before .before .before .before in
     let b = sized .before .before .before .before in
     planned (now (b .args .words)) (now (b .args .answer)) (now (b .args .scratch)) (b .pre)
-    (f .before .before .common .ensures) (f .fill .ensures) (t .fill-split .ensures)
+    (f .before .before .before .before .common .ensures) (f .fill .ensures) (t .fill-split .ensures)
     (rw (sized .scratch-places .ensures) at (c .before .before .clear .ensures))
 
 pub show-spec : {M : Type 1} → statement M
