@@ -35,7 +35,14 @@ fn above(words: &[u32], count: usize, parents: &[u32; PARENTS], r: usize) -> usi
     source(words, count, parents[r % PARENTS], r)
 }
 
-// From r up along parents to a register that has been met: each on the way is marked and put on the stack. Their count.
+// A way up along parents: how many registers it has met first, the last of them, and the register that came after it.
+pub struct Way {
+    pub height: usize,
+    pub last: usize,
+    pub to: usize,
+}
+
+// From r up along parents to a register that has been met: each on the way is marked and put on the stack.
 fn stack_up(
     words: &[u32],
     count: usize,
@@ -44,19 +51,25 @@ fn stack_up(
     mark: u16,
     marks: &mut [u16; PARENTS],
     stack: &mut [u16; PARENTS],
-) -> usize
+) -> Way
     requires { ⌜ IsAccepted (now words) ⌝ }
     requires { ⌜ count ≡ pairCount (now words) ⌝ }
 {
     let mut height = 0;
+    let mut last = r % PARENTS;
     let mut at = r % PARENTS;
     while height < PARENTS && marks[at] == 0 {
         marks[at] = mark;
         stack[height] = at as u16;
         height += 1;
+        last = at;
         at = above(words, count, parents, at) % PARENTS;
     }
-    height
+    Way {
+        height: height,
+        last: last,
+        to: at,
+    }
 }
 
 // The period that the cycle asks for which a way up has closed; 0 if it has closed none.
@@ -65,21 +78,21 @@ fn closed(
     count: usize,
     n: usize,
     parents: &[u32; PARENTS],
-    last: usize,
+    way: Way,
     mark: u16,
     marks: &[u16; PARENTS],
 ) -> u32
     requires { ⌜ AcceptedList (now words) n count ⌝ }
     ensures { λ u. ⌜ Bound (pairs (now (words .entry))) u ⌝ }
 {
-    let to = above(words, count, parents, last);
-    if to == last {
+    let to = way.to;
+    if marks[to % PARENTS] != mark {
+        return 0;
+    }
+    if to == way.last {
         return 0;
     }
     if to >= n {
-        return 0;
-    }
-    if marks[to % PARENTS] != mark {
         return 0;
     }
     free_cycles::around(words, count, n, parents, to as u32)
@@ -123,13 +136,9 @@ fn branch(
     ensures bound { λ u. ⌜ Bound (pairs (now (words .entry))) u ⌝ }
 {
     let mark = ((r % PARENTS) as u16) + 1;
-    let height = stack_up(words, count, parents, r, mark, marks, stack);
-    if height == 0 {
-        return 0;
-    }
-    let last = wide(stack[(height - 1) % PARENTS]);
-    let longer = closed(words, count, x.len(), parents, last, mark, marks);
-    unwind(words, count, x, parents, period, stack, height);
+    let way = stack_up(words, count, parents, r, mark, marks, stack);
+    let longer = closed(words, count, x.len(), parents, way, mark, marks);
+    unwind(words, count, x, parents, period, stack, way.height);
     longer
 }
 

@@ -82,10 +82,10 @@ fn ascend(
 {
     let mut parents = [NONE; REGISTERS];
     let mut period = start;
-    let mut next = free_trials::quick(words, count, x, &mut parents, lasts, before, period);
+    let mut next = free_trials::quick(words, count, x, &mut parents, false, lasts, before, period);
     while period < next {
         period = next;
-        next = free_trials::quick(words, count, x, &mut parents, lasts, before, period);
+        next = free_trials::quick(words, count, x, &mut parents, true, lasts, before, period);
     }
     if next < period {
         return Ascent::Undecided(period);

@@ -160,7 +160,7 @@ fn turn(
     )
 }
 
-// Turns until none is left in the heap or in line, or half as many have been taken as there are registers.
+// Turns until none is left in the heap or in line, or as many have been taken as there are registers.
 fn chase(
     words: &[u32],
     count: usize,
@@ -178,7 +178,7 @@ fn chase(
     ensures { λ u. ⌜ Risen maxTiming (constraints period (pairs (now (words .entry)))) (now (x .entry)) (now (x .exit)) ⌝ }
 {
     let mut now = w;
-    let mut left = x.len() / 2 + 1;
+    let mut left = x.len();
     while left > 0 {
         left -= 1;
         if none_left(now) {

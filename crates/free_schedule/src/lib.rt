@@ -4,6 +4,7 @@ ghost use Rattle.list_format.specs.Lists.{AcceptedList};
 ghost use Rattle.free_schedule.specs.FreeCall.{FreeAs, Roomy, FreeIn};
 use list_format::Verdict;
 use pair_ends::ENDS;
+use pair_ends::NONE;
 use pair_ends::REGISTERS;
 
 // The common and the free period, or a refusal with its place.
@@ -36,7 +37,7 @@ fn settle(words: &[u32], n: usize, count: usize, answer: &mut [u32]) -> FreeAnsw
         return FreeAnswer::Refused(2, 0);
     }
     let mut lasts = [0u16; REGISTERS];
-    let mut before = [0u16; ENDS];
+    let mut before = [NONE; ENDS];
     pair_ends::link(words, count, &mut lasts, &mut before);
     let common = free_climb::common(words, count);
     let free = fill(words, n, count, &lasts, &before, answer);

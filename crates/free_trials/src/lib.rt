@@ -83,13 +83,33 @@ fn rounds(
     0
 }
 
-// All registers from 0 as far up as rules are seen to ask: along the parents that are left from other periods, by a few rounds,
+// Raises along the parents, if they are kept from another period.
+fn resume(
+    words: &[u32],
+    count: usize,
+    x: &mut [u32],
+    parents: &mut [u32; PARENTS],
+    period: u32,
+    kept: bool,
+) -> u32
+    requires { ⌜ Raising (now words) count period (now x) ⌝ }
+    ensures risen { λ u. ⌜ Risen maxTiming (constraints period (pairs (now (words .entry)))) (now (x .entry)) (now (x .exit)) ⌝ }
+    ensures bound { λ u. ⌜ Bound (pairs (now (words .entry))) u ⌝ }
+{
+    if kept {
+        return free_carry::carry(words, count, x, parents, period);
+    }
+    0
+}
+
+// All registers from 0 as far up as rules are seen to ask: along parents that are kept from another period, by a few rounds,
 // then from register to register. A longer period if a cycle of parents asks for one, else no more than this one.
 fn seek(
     words: &[u32],
     count: usize,
     x: &mut [u32],
     parents: &mut [u32; PARENTS],
+    kept: bool,
     period: u32,
     lasts: &[u16; PARENTS],
     before: &[u16; ENDS],
@@ -99,9 +119,9 @@ fn seek(
     ensures bound { λ u. ⌜ Bound (pairs (now (words .entry))) u ⌝ }
 {
     clear(x);
-    let kept = free_carry::carry(words, count, x, parents, period);
-    if period < kept {
-        return kept;
+    let first = resume(words, count, x, parents, period, kept);
+    if period < first {
+        return first;
     }
     let mut old = [0u32; PARENTS];
     let longer = rounds(words, count, x, parents, period, &mut old);
@@ -120,12 +140,13 @@ fn seek(
     )
 }
 
-// A trial that takes the parents along, a hint; 0 if it leaves the period undecided.
+// A trial that may start from parents kept from another period, a hint; 0 if it leaves the period undecided.
 pub fn quick(
     words: &[u32],
     count: usize,
     x: &mut [u32],
     parents: &mut [u32; PARENTS],
+    kept: bool,
     lasts: &[u16; PARENTS],
     before: &[u16; ENDS],
     period: u32,
@@ -133,7 +154,7 @@ pub fn quick(
     requires { ⌜ Trial (now words) count period (now x) ⌝ }
     ensures { λ r. ⌜ Sought (now (words .entry)) period (now (x .exit)) r ⌝ }
 {
-    let longer = seek(words, count, x, parents, period, lasts, before);
+    let longer = seek(words, count, x, parents, kept, period, lasts, before);
     if period < longer {
         return longer;
     }

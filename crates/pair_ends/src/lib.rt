@@ -10,6 +10,9 @@ pub const REGISTERS: usize = timing::MAX_REGISTERS as usize;
 // A pair has two ends: 2k + 1 is the launch of pair k, 2k + 2 its capture; 0 is none.
 pub const ENDS: usize = 2 * MAX_PAIRS;
 
+// What stands where no end has been put: no end is before it.
+pub const NONE: u16 = 0x1FFF;
+
 // End e + 1 is put at register r, after the ends that are there.
 fn join(r: usize, e: usize, lasts: &mut [u16; REGISTERS], before: &mut [u16; ENDS]) {
     let at = r % REGISTERS;

@@ -8,6 +8,7 @@ ghost use Rattle.list_format.specs.Lists.{registers, pairs};
 ghost use Rattle.free_laws.specs.Free.{common as commonOf, freePeriod};
 use list_format::Verdict;
 use pair_ends::ENDS;
+use pair_ends::NONE;
 use pair_ends::REGISTERS;
 use refusals::Fault;
 
@@ -55,7 +56,7 @@ fn show(words: &[u32], n: usize, m: usize, answer: &mut [u32], scratch: &mut [u3
     ensures { λ r. ⌜ PlanAs (now (words .entry)) (now (answer .entry)) (now (answer .exit)) (now (scratch .entry)) (now (scratch .exit)) r ⌝ }
 {
     let mut lasts = [0u16; REGISTERS];
-    let mut before = [0u16; ENDS];
+    let mut before = [NONE; ENDS];
     let end = timing::scratch_places(n, m);
     pair_ends::link(words, m, &mut lasts, &mut before);
     let common = free_climb::common(words, m);

@@ -7,10 +7,10 @@ use Rattle.free_carry.proofs.stack_up.Statement.{statement}
 use Rattle.free_carry.proofs.stack_up.Tie as tie
 
 abbrev Inv-loop : tie.InvT-loop
-Inv-loop words count parents r mark marks₀ stack₀ height₀ at₀ marks stack height at = at < 512
+Inv-loop words count parents r mark marks₀ stack₀ height₀ last₀ at₀ marks stack height last at = at < 512
 
 abbrev μ-loop : tie.MeasureT-loop
-μ-loop words count parents r mark marks₀ stack₀ height₀ at₀ marks stack height at = 512 - height
+μ-loop words count parents r mark marks₀ stack₀ height₀ last₀ at₀ marks stack height last at = 512 - height
 
 loop-holds : tie.Need-loop-holds Inv-loop μ-loop
 loop-holds c = omega arith

@@ -49,5 +49,5 @@ pub chase-spec : {M : Type 1} → statement M
 chase-spec =
     tie.close
     (tie.spec
-    Inv-loop μ-loop (λ c. search needs) loop-holds (λ c. search needs) (λ c κs. search needs) same-length returns
-    turn-requires loop-less loop-again same-length-2 returns-2)
+    Inv-loop μ-loop loop-holds (λ c. search needs) (λ c κs. search needs) same-length returns turn-requires loop-less
+    loop-again same-length-2 returns-2)

@@ -5,8 +5,8 @@ use borrow.Author.Needs.{needs}
 use Rattle.free_trials.proofs.seek.Statement.{statement}
 use Rattle.free_trials.proofs.seek.Tie as tie
 
-carry-requires : tie.Need-carry-requires
-carry-requires c κs =
+resume-requires : tie.Need-resume-requires
+resume-requires c κs =
     let z = c .before .before .before .before in
     let p = z .before .before .before .before .pre in
     zeros-raise (p .0) (p .1) (z .clear .ensures)
@@ -16,14 +16,14 @@ returns c =
     let d = c .before .before .before in
     let z = d .before .before .before .before .before in
     let p = z .before .before .before .before .pre in
-    (risen-then (zeros-risen (p .0) (p .1) (z .clear .ensures)) (d .carry .ensures .0), d .carry .ensures .1)
+    (risen-then (zeros-risen (p .0) (p .1) (z .clear .ensures)) (d .resume .ensures .0), d .resume .ensures .1)
 
 rounds-requires : tie.Need-rounds-requires
 rounds-requires c κs =
     let d = c .before .before .before .before .before .before in
     let z = d .before .before .before .before .before in
     let p = z .before .before .before .before .pre in
-    raising-kept (zeros-raise (p .0) (p .1) (z .clear .ensures)) (d .carry .ensures .0)
+    raising-kept (zeros-raise (p .0) (p .1) (z .clear .ensures)) (d .resume .ensures .0)
 
 returns-2 : tie.Need-returns-2
 returns-2 c =
@@ -32,7 +32,7 @@ returns-2 c =
     let z = d .before .before .before .before .before in
     let p = z .before .before .before .before .pre in
     (
-      risen-then (risen-then (zeros-risen (p .0) (p .1) (z .clear .ensures)) (d .carry .ensures .0)) (r .rounds .ensures .0),
+      risen-then (risen-then (zeros-risen (p .0) (p .1) (z .clear .ensures)) (d .resume .ensures .0)) (r .rounds .ensures .0),
       r .rounds .ensures .1,
     )
 
@@ -42,7 +42,7 @@ settle-requires c κs =
     let d = r .before .before .before .before .before .before .before in
     let z = d .before .before .before .before .before in
     let p = z .before .before .before .before .pre in
-    raising-kept (zeros-raise (p .0) (p .1) (z .clear .ensures)) (risen-then (d .carry .ensures .0) (r .rounds .ensures .0))
+    raising-kept (zeros-raise (p .0) (p .1) (z .clear .ensures)) (risen-then (d .resume .ensures .0) (r .rounds .ensures .0))
 
 returns-3 : tie.Need-returns-3
 returns-3 c =
@@ -52,7 +52,7 @@ returns-3 c =
     let z = d .before .before .before .before .before in
     let p = z .before .before .before .before .pre in
     (
-      risen-then (risen-then (risen-then (zeros-risen (p .0) (p .1) (z .clear .ensures)) (d .carry .ensures .0)) (r .rounds .ensures .0)) (s .settle .ensures .0),
+      risen-then (risen-then (risen-then (zeros-risen (p .0) (p .1) (z .clear .ensures)) (d .resume .ensures .0)) (r .rounds .ensures .0)) (s .settle .ensures .0),
       s .settle .ensures .1,
     )
 
@@ -60,5 +60,5 @@ pub seek-spec : {M : Type 1} → statement M
 seek-spec =
     tie.close
     (tie.spec
-    (λ c κs. search needs) carry-requires (λ c. search needs) returns rounds-requires (λ c. search needs) returns-2
+    (λ c κs. search needs) resume-requires (λ c. search needs) returns rounds-requires (λ c. search needs) returns-2
     settle-requires (λ c. search needs) returns-3)
