@@ -151,7 +151,8 @@ module _ (start : ℕ) (W : List ℕ) where
       go false e later = later (omega (arith, ltb-false t (min (reachOf W (q .launch)) (q .greatest)) e))
 
 -- counted from 0, no split works below it: every register may be raised to it
-pub none-asked : (top : ℕ) (ps : List Pair) (W : List ℕ) → Each (λ p. p .greatest ≤ top) ps → Reaches top ps W → NoneBelow top ps (reachPeriod 0 ps W)
+pub none-asked : (top : ℕ) (ps : List Pair) (W : List ℕ) → Each (λ p. p .greatest ≤ top) ps → Reaches top ps W
+    → NoneBelow top ps (reachPeriod 0 ps W)
 none-asked top ps W u s =
     record { under = period-upto 0 W top ps zero-le u; none = λ t l. period-none 0 W top ps ps s (pairs-of top ps u) t zero-le l }
 

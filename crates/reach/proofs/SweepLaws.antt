@@ -51,7 +51,7 @@ module _ {ws : List ℕ} {count top : ℕ} {W : List ℕ} (r : Reaching ws count
   pub asked-none : {v : ℕ} → v ≡ reachPeriod 0 (pairs ws) W → NoneBelow top (pairs ws) v
   asked-none e = rw e (none-asked top (pairs ws) W (below-common (pairs ws) top (omega (arith, r .topIs))) (r .reaches))
 
-  pub lifted : {v : ℕ} → NoneBelow top (pairs ws) v → {W′ : List ℕ} {x : ℕ} {o : Bool} → x < length W → Raised x v W W′ o → Reaching ws count top W′
+  pub lifted : {v x : ℕ} {W′ : List ℕ} {o : Bool} → NoneBelow top (pairs ws) v → x < length W → Raised x v W W′ o → Reaching ws count top W′
   lifted n l a = reaching-then (step-lift n l (r .reaches) a)
 
   module _ {k : ℕ} {p : Pair} (is : IsPair ws k p) (h : k < pairCount ws) where

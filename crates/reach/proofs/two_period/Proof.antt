@@ -26,4 +26,5 @@ returns c = reached (c .before .before .before .before .settle .ensures) (c .per
 pub two-period-spec : {M : Type 1} → statement M
 two-period-spec =
     tie.close
-    (tie.spec (λ c κs. search needs) guide-requires (λ c κs. search needs) lift-requires settle-requires (λ c κs. search needs) (λ c. search needs) returns)
+    (tie.spec (λ c κs. search needs) guide-requires (λ c κs. search needs) lift-requires settle-requires (λ c κs. search needs)
+    (λ c. search needs) returns)
