@@ -5,7 +5,7 @@
 use mathlib.Core.Path.{_≡_, refl, ap, sym, _∙_, subst}
 use mathlib.Core.Bool.{Bool, true, false, false≢true}
 use mathlib.Core.List.{List, [], _∷_}
-use Prim.Native.Nat.{ℕ, zero, suc, _+_, _-_, _≤_, _<_, min, zero-le}
+use Prim.Native.Nat.{ℕ, zero, suc, _+_, _-_, _≤_, _<_, max, min, zero-le}
 use native.Mathlib.Nat.{le-refl}
 use native.Mathlib.Omega.{arith}
 use lib.Dec.{ltb}
@@ -108,6 +108,9 @@ module _ (top : ℕ) (ps : List Pair) where
         go true false ex q = omega (arith, of .under)
         go true true ex q = omega arith
 
+    pub none-asked : NoneBelow top ps (min (reachOf W (p .launch)) (p .greatest))
+    none-asked = record { under = omega (arith, of .under); none = none-below }
+
     -- Late where the reach is above t: the rules of a closed pair are met, in each of the four cases. Were a choice broken,
     -- the pair would raise a reach past t that stands below it, or, with both ends late, ask for a longer period.
     closed-meets : (t : ℕ) → t ≤ top → ReachClosed top W p → min (reachOf W (p .launch)) (p .greatest) ≤ t
@@ -119,6 +122,18 @@ module _ (top : ℕ) (ps : List Pair) where
         go false true ex ey = omega (arith, ltb-false, ltb-true, closed .launch)
         go true false ex ey = omega (arith, ltb-true, ltb-false, closed .capture)
         go true true ex ey = omega (arith, ltb-true)
+
+-- ---- periods below which no split works
+
+pub none-nought : (top : ℕ) (ps : List Pair) → NoneBelow top ps 0
+none-nought top ps = record { under = zero-le; none = λ t l. absurd (omega arith) }
+
+pub none-larger : {top : ℕ} {ps : List Pair} {v w : ℕ} → NoneBelow top ps v → NoneBelow top ps w → NoneBelow top ps (max v w)
+none-larger {top} {ps} {v} {w} a b = record { under = omega (arith, a .under, b .under); none = λ t l c k. go t l c k (ltb t v) refl }
+  where
+    go : (t : ℕ) → t < max v w → (c : List Bool) → works t (top - t) ps c ≡ true → (x : Bool) → ltb t v ≡ x → ⊥
+    go t l c k true e = a .none t (ltb-true t v e) c k
+    go t l c k false e = b .none t (omega (arith, ltb-false t v e)) c k
 
 -- ---- the period that reaches give
 
@@ -149,11 +164,6 @@ module _ (start : ℕ) (W : List ℕ) where
       go : (x : Bool) → ltb t (min (reachOf W (q .launch)) (q .greatest)) ≡ x → (t < reachPeriod start qs W → ⊥) → ⊥
       go true e later = none-below top ps W s q (of .0) t (ltb-true t (min (reachOf W (q .launch)) (q .greatest)) e) c w
       go false e later = later (omega (arith, ltb-false t (min (reachOf W (q .launch)) (q .greatest)) e))
-
--- counted from 0, no split works below it: every register may be raised to it
-pub none-asked : (top : ℕ) (ps : List Pair) (W : List ℕ) → Each (λ p. p .greatest ≤ top) ps → Reaches top ps W → NoneBelow top ps (reachPeriod 0 ps W)
-none-asked top ps W u s =
-    record { under = period-upto 0 W top ps zero-le u; none = λ t l. period-none 0 W top ps ps s (pairs-of top ps u) t zero-le l }
 
 -- ---- the split that reaches give
 

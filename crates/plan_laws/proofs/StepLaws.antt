@@ -65,9 +65,9 @@ module _ {top : ℕ} {ps : List Pair} where
       rw (x .0) (record { size = length-set W r v; reaches = reaches-set W r v s l h f; told = room-set top W r v l (x .1) h })
 
   -- where no split works below v, each register may be raised to it
-  pub step-lift : {v : ℕ} → NoneBelow top ps v → {W W′ : List ℕ} {r : ℕ} → r < length W → Reaches top ps W → {x : Bool} → Raised r v W W′ x
-      → ReachStep top ps (λ X. v ≤ reachOf X r) W W′ x
-  step-lift {v} n {W} {W′} {r} l s {x} a = step-raise W r v x W′ s l (n .under) (λ t h c w. absurd (n .none t h c w)) (a .rose)
+  pub step-lift : {v : ℕ} → NoneBelow top ps v → {W W′ : List ℕ} {r : ℕ} {x : Bool} → r < length W → Reaches top ps W
+      → Raised r v W W′ x → ReachStep top ps (λ X. v ≤ reachOf X r) W W′ x
+  step-lift {v} n {W} {W′} {r} {x} l s a = step-raise W r v x W′ s l (n .under) (λ t h c w. absurd (n .none t h c w)) (a .rose)
 
   -- ---- a pair: its capture is raised, its launch, or one and then the other
 
@@ -94,5 +94,6 @@ module _ {top : ℕ} {ps : List Pair} where
         both : (x : Bool) → Rose x (p .capture) (ahead top p W) W M
             → ReachStep top ps (λ X. (ahead top p W ≤ reachOf X (p .capture)) × (behind top p M ≤ reachOf X (p .launch))) W W′ (x || y)
             → ReachStep top ps (λ X. ReachClosed top X p) W W′ (x || y)
-        both false r h = step-with (λ d. record { capture = d .0; launch = subst (λ (X : List ℕ). behind top p X ≤ reachOf W (p .launch)) (r .0) (d .1) }) h
+        both false r h =
+            step-with (λ d. record { capture = d .0; launch = subst (λ (X : List ℕ). behind top p X ≤ reachOf W (p .launch)) (r .0) (d .1) }) h
         both true r h = record { size = h .size; reaches = h .reaches; told = h .told }

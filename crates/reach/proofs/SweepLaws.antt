@@ -27,10 +27,10 @@ use Rattle.split_laws.proofs.ClosureLaws.{time-of}
 use Rattle.plan_laws.specs.Plan.{twoPeriod}
 use Rattle.plan_laws.specs.Reach.{reachOf, ReachClosed, reachPeriod, lateAbove, ahead, behind, Raised, room, NoneBelow, ReachTold, ReachStep}
 use Rattle.plan_laws.proofs.OffsetLaws.{below-common}
-use Rattle.plan_laws.proofs.ReachLaws.{PairOf, pairs-of, period-from, none-asked, length-late, late-at, reaches-level}
+use Rattle.plan_laws.proofs.ReachLaws.{PairOf, pairs-of, period-from, none-asked, none-nought, none-larger, length-late, late-at, reaches-level}
 use Rattle.plan_laws.proofs.StepLaws.{step-none, step-then, step-with, step-lift, step-ahead, step-behind, pair-step}
 use Rattle.plan_laws.proofs.ReachTwo.{period-is, timings-are}
-use Rattle.reach.specs.Settling.{PairReaching, Reaching, ClosedAt, ClosedAll, Swept, Reached}
+use Rattle.reach.specs.Settling.{PairReaching, Reaching, Guided, ClosedAt, ClosedAll, Swept, Reached}
 
 -- ---- one pair
 
@@ -47,11 +47,11 @@ module _ {ws : List ℕ} {count top : ℕ} {W : List ℕ} (r : Reaching ws count
   pub same-size : {W′ : List ℕ} → Reaching ws count top W′ → length W′ ≡ length W
   same-size r′ = r′ .list .registersAre ∙ sym (r .list .registersAre)
 
-  -- below what its pairs ask for no split works, and each register may be raised to that
-  pub asked-none : {v : ℕ} → v ≡ reachPeriod 0 (pairs ws) W → NoneBelow top (pairs ws) v
-  asked-none e = rw e (none-asked top (pairs ws) W (below-common (pairs ws) top (omega (arith, r .topIs))) (r .reaches))
+  pub guided-start : Guided ws count top W 0
+  guided-start = record { reaching = r; none = none-nought top (pairs ws) }
 
-  pub lifted : {v : ℕ} → NoneBelow top (pairs ws) v → {W′ : List ℕ} {x : ℕ} {o : Bool} → x < length W → Raised x v W W′ o → Reaching ws count top W′
+  -- each register raised to a period below which no split works
+  pub lifted : {v x : ℕ} {W′ : List ℕ} {o : Bool} → NoneBelow top (pairs ws) v → x < length W → Raised x v W W′ o → Reaching ws count top W′
   lifted n l a = reaching-then (step-lift n l (r .reaches) a)
 
   module _ {k : ℕ} {p : Pair} (is : IsPair ws k p) (h : k < pairCount ws) where
@@ -69,6 +69,10 @@ module _ {ws : List ℕ} {count top : ℕ} {W : List ℕ} (r : Reaching ws count
           limit = omega (arith, r .topIs, common-limit maxPeriod (omega arith) (pairs ws) (pairs-within ws (r .list .accepted)));
         }
 
+    -- below what it asks for no split works
+    pub pair-asked : {one : ℕ} → one ≡ min (reachOf W (p .launch)) (p .greatest) → Guided ws count top W one
+    pair-asked e = record { reaching = r; none = rw e (none-asked top (pairs ws) W (r .reaches) p pair-of) }
+
     -- one of its ends raised
     pub pair-ahead : {W′ : List ℕ} {x : Bool} → Raised (p .capture) (ahead top p W) W W′ x → Reaching ws count top W′
     pair-ahead a = reaching-then (step-ahead pair-of (pair-raisable .inside) (r .reaches) a)
@@ -85,6 +89,11 @@ module _ {ws : List ℕ} {count top : ℕ} {W : List ℕ} (r : Reaching ws count
 pub raisable-kept : {p : Pair} {top : ℕ} {W W′ : List ℕ} → PairReaching p top W → length W′ ≡ length W → PairReaching p top W′
 raisable-kept a e =
     record { inside = record { launch = rw e (a .inside .launch); capture = rw e (a .inside .capture) }; order = a .order; under = a .under; limit = a .limit }
+
+-- the longer of two periods below which no split works
+pub guided-more : {ws : List ℕ} {count top : ℕ} {W W′ : List ℕ} {most one next : ℕ} → Guided ws count top W most → Guided ws count top W′ one
+    → next ≡ max most one → Guided ws count top W′ next
+guided-more g h e = record { reaching = h .reaching; none = rw e (none-larger (g .none) (h .none)) }
 
 -- ---- sweeps
 
@@ -134,30 +143,30 @@ sweep-less {top} {ps} {D} {W} {W′} {o} h e = go o e (h .told)
 -- ---- the period
 
 -- the longest that the first k pairs ask for, with those from place k on, gives the period: a maximum, taken over pair by pair
-pub record Asked (ws W : List ℕ) (start most k : ℕ) : Type 0 where
+pub record Asked (ws W : List ℕ) (most k : ℕ) : Type 0 where
   pub place : k ≤ pairCount ws
-  pub from : start ≤ most
-  pub same : max most (reachPeriod start (pairsFrom ws k (pairCount ws - k)) W) ≡ reachPeriod start (pairs ws) W
+  pub pos : 1 ≤ most
+  pub same : max most (reachPeriod 1 (pairsFrom ws k (pairCount ws - k)) W) ≡ reachPeriod 1 (pairs ws) W
 
-pub asked-start : {ws W : List ℕ} (start : ℕ) → Asked ws W start start 0
-asked-start {ws} {W} start = record { place = zero-le; from = le-refl start; same = rw sub-zero (omega (arith, period-from start W (pairs ws))) }
+pub asked-start : {ws W : List ℕ} → Asked ws W 1 0
+asked-start {ws} {W} = record { place = zero-le; pos = le-refl 1; same = rw sub-zero (omega (arith, period-from 1 W (pairs ws))) }
 
-module _ {ws W : List ℕ} {start most k : ℕ} (a : Asked ws W start most k) where
+module _ {ws W : List ℕ} {most k : ℕ} (a : Asked ws W most k) where
   pub asked-turn : {one next : ℕ} {p : Pair} → k < pairCount ws → IsPair ws k p → one ≡ min (reachOf W (p .launch)) (p .greatest)
-      → next ≡ max most one → Asked ws W start next (k + 1)
+      → next ≡ max most one → Asked ws W next (k + 1)
   unfolding pairsFrom reachPeriod
   asked-turn {one} {next} {p} h is e f =
       let left : pairCount ws - k ≡ suc (pairCount ws - (k + 1)) = omega arith in
       let split = rw left at (a .same) in
       let here : one ≡ min (reachOf W (pairAt ws k .launch)) (pairAt ws k .greatest) = rw (is .same) at e in
-      record { place = omega arith; from = omega (arith, a .from); same = omega (arith, split, here) }
+      record { place = omega arith; pos = omega (arith, a .pos); same = omega (arith, split, here) }
 
-  pub asked-end : pairCount ws ≤ k → most ≡ reachPeriod start (pairs ws) W
+  pub asked-end : pairCount ws ≤ k → most ≡ reachPeriod 1 (pairs ws) W
   unfolding pairsFrom reachPeriod
   asked-end h =
       let none : pairCount ws - k ≡ 0 = omega arith in
       let all = rw none at (a .same) in
-      omega (arith, all, a .from)
+      omega (arith, all, a .pos)
 
 -- ---- from equal reaches to the period and its split
 

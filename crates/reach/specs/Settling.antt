@@ -10,7 +10,7 @@ use Rattle.list_format.specs.Lists.{registers, pairCount, pairAt, pairs, Accept
 use Rattle.free_laws.specs.Free.{common}
 use Rattle.split_laws.specs.Split.{timings}
 use Rattle.plan_laws.specs.Plan.{twoPeriod, twoOffset, twoTimings}
-use Rattle.plan_laws.specs.Reach.{Reaches, ReachClosed, lateAbove}
+use Rattle.plan_laws.specs.Reach.{Reaches, NoneBelow, ReachClosed, lateAbove}
 
 -- a pair with a reach for each of its registers, and delays no more than top
 pub record PairReaching (p : Pair) (top : ℕ) (W : List ℕ) : Type 0 where
@@ -24,6 +24,11 @@ pub record Reaching (ws : List ℕ) (count top : ℕ) (W : List ℕ) : Type 0 wh
   pub list : AcceptedList ws (length W) count
   pub topIs : top ≡ common (pairs ws)
   pub reaches : Reaches top (pairs ws) W
+
+-- such reaches, and a period below which no split works
+pub record Guided (ws : List ℕ) (count top : ℕ) (W : List ℕ) (most : ℕ) : Type 0 where
+  pub reaching : Reaching ws count top W
+  pub none : NoneBelow top (pairs ws) most
 
 -- pair k raises no reach further
 abbrev pub ClosedAt : List ℕ → ℕ → ℕ → List ℕ → Type 0

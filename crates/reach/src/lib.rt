@@ -13,7 +13,7 @@ ghost use Rattle.free_laws.specs.Free.{common};
 ghost use Rattle.free_laws.specs.Constraint.{Bound};
 ghost use Rattle.split_laws.specs.Split.{timeOf, timings};
 ghost use Rattle.plan_laws.specs.Reach.{reachOf, ahead, behind, reachPeriod, lateAbove, NoneBelow, Raised, ReachStep};
-ghost use Rattle.reach.specs.Settling.{PairReaching, Reaching, ClosedAt, ClosedAll, Swept, Reached};
+ghost use Rattle.reach.specs.Settling.{PairReaching, Reaching, Guided, ClosedAt, ClosedAll, Swept, Reached};
 use pair_ends::ENDS;
 use pair_ends::REGISTERS;
 use timing::Pair;
@@ -106,12 +106,12 @@ fn asked(p: Pair, reach: &[u32]) -> u32
     smaller(reach[p.launch as usize], p.greatest)
 }
 
-// The longest such period, or `start`.
-fn period(words: &[u32], count: usize, start: u32, reach: &[u32]) -> u32
+// The longest such period, or 1.
+fn period(words: &[u32], count: usize, reach: &[u32]) -> u32
     requires { ⌜ AcceptedList (now words) (length (now reach)) count ⌝ }
-    ensures { λ r. ⌜ r ≡ reachPeriod start (pairs (now (words .entry))) (now (reach .entry)) ⌝ }
+    ensures { λ r. ⌜ r ≡ reachPeriod 1 (pairs (now (words .entry))) (now (reach .entry)) ⌝ }
 {
-    let mut most = start;
+    let mut most = 1;
     let mut k = 0;
     while k < count {
         let p = delay_list::pair_at(words, k);
@@ -152,7 +152,7 @@ pub struct Waiting {
 // The capture of pair k is raised.
 fn go_ahead(words: &[u32], count: usize, k: usize, top: u32, reach: &mut [u32]) -> Along
     requires { ⌜ Reaching (now words) count top (now reach) × (k < count) ⌝ }
-    ensures { λ _. ⌜ Reaching (now (words .entry)) count top (now (reach .exit)) ⌝ }
+    ensures { λ r. ⌜ Guided (now (words .entry)) count top (now (reach .exit)) (r .asks) ⌝ }
 {
     let p = delay_list::pair_at(words, k);
     let raised = raise_capture(p, top, reach);
@@ -167,7 +167,7 @@ fn go_ahead(words: &[u32], count: usize, k: usize, top: u32, reach: &mut [u32]) 
 // The launch of pair k is raised.
 fn go_back(words: &[u32], count: usize, k: usize, top: u32, reach: &mut [u32]) -> Along
     requires { ⌜ Reaching (now words) count top (now reach) × (k < count) ⌝ }
-    ensures { λ _. ⌜ Reaching (now (words .entry)) count top (now (reach .exit)) ⌝ }
+    ensures { λ r. ⌜ Guided (now (words .entry)) count top (now (reach .exit)) (r .asks) ⌝ }
 {
     let p = delay_list::pair_at(words, k);
     let raised = raise_launch(p, top, reach);
@@ -181,7 +181,7 @@ fn go_back(words: &[u32], count: usize, k: usize, top: u32, reach: &mut [u32]) -
 // From one end of pair k to the other.
 fn cross(words: &[u32], count: usize, k: usize, launch: bool, top: u32, reach: &mut [u32]) -> Along
     requires { ⌜ Reaching (now words) count top (now reach) × (k < count) ⌝ }
-    ensures { λ _. ⌜ Reaching (now (words .entry)) count top (now (reach .exit)) ⌝ }
+    ensures { λ r. ⌜ Guided (now (words .entry)) count top (now (reach .exit)) (r .asks) ⌝ }
 {
     if launch {
         go_ahead(words, count, k, top, reach)
@@ -193,7 +193,7 @@ fn cross(words: &[u32], count: usize, k: usize, launch: bool, top: u32, reach: &
 // Every capture is raised; the longest period that a pair was seen to ask for.
 fn begin(words: &[u32], count: usize, top: u32, reach: &mut [u32]) -> u32
     requires { ⌜ Reaching (now words) count top (now reach) ⌝ }
-    ensures { λ _. ⌜ Reaching (now (words .entry)) count top (now (reach .exit)) ⌝ }
+    ensures { λ r. ⌜ Guided (now (words .entry)) count top (now (reach .exit)) r ⌝ }
 {
     let mut most = 0;
     let mut k = 0;
@@ -212,7 +212,9 @@ fn enter(
     reach: &[u32],
     line: &mut [u16; REGISTERS],
     place: &mut [u16; REGISTERS],
-) -> Waiting {
+) -> Waiting
+    ensures { λ r. ⌜ r .most ≡ max (w .most) (a .asks) ⌝ }
+{
     let r = a.register;
     let mut next = w;
     next.most = larger(w.most, a.asks);
@@ -235,7 +237,9 @@ fn gather(
     reach: &[u32],
     line: &mut [u16; REGISTERS],
     place: &mut [u16; REGISTERS],
-) -> Waiting {
+) -> Waiting
+    ensures { λ r. ⌜ r .most ≡ most ⌝ }
+{
     let mut now = Waiting {
         most: most,
         size: 0,
@@ -266,8 +270,8 @@ fn visit(
     line: &mut [u16; REGISTERS],
     place: &mut [u16; REGISTERS],
 ) -> Waiting
-    requires { ⌜ Reaching (now words) count top (now reach) ⌝ }
-    ensures { λ _. ⌜ Reaching (now (words .entry)) count top (now (reach .exit)) ⌝ }
+    requires { ⌜ Guided (now words) count top (now reach) (w .most) ⌝ }
+    ensures { λ r. ⌜ Guided (now (words .entry)) count top (now (reach .exit)) (r .most) ⌝ }
 {
     let mut now = w;
     let mut end = pair_ends::last_at(lasts, r);
@@ -309,9 +313,9 @@ fn follow(
     reach: &mut [u32],
     line: &mut [u16; REGISTERS],
     place: &mut [u16; REGISTERS],
-)
-    requires { ⌜ Reaching (now words) count top (now reach) ⌝ }
-    ensures { λ _. ⌜ Reaching (now (words .entry)) count top (now (reach .exit)) ⌝ }
+) -> u32
+    requires { ⌜ Guided (now words) count top (now reach) (w .most) ⌝ }
+    ensures { λ r. ⌜ Guided (now (words .entry)) count top (now (reach .exit)) r ⌝ }
 {
     let mut now = w;
     let mut left = reach.len();
@@ -319,11 +323,12 @@ fn follow(
         left -= 1;
         let r = largest(now, reach, line);
         if r >= REGISTERS {
-            return;
+            return now.most;
         }
         now.size = register_heap::remove(reach, line, place, now.size, r);
         now = visit(words, count, top, r, lasts, before, now, reach, line, place);
     }
+    now.most
 }
 
 // The heap from its filling until nothing in it is above the period seen.
@@ -334,9 +339,9 @@ fn guide(
     reach: &mut [u32],
     lasts: &[u16; REGISTERS],
     before: &[u16; ENDS],
-)
+) -> u32
     requires { ⌜ Reaching (now words) count top (now reach) ⌝ }
-    ensures { λ _. ⌜ Reaching (now (words .entry)) count top (now (reach .exit)) ⌝ }
+    ensures { λ r. ⌜ Guided (now (words .entry)) count top (now (reach .exit)) r ⌝ }
 {
     let mut line = [0u16; REGISTERS];
     let mut place = [0u16; REGISTERS];
@@ -352,7 +357,7 @@ fn guide(
         reach,
         &mut line,
         &mut place,
-    );
+    )
 }
 
 // The two-timing period of an accepted list with the common period `top` and a free period above `floor`; the reaches are left
@@ -371,11 +376,10 @@ pub fn two_period(
 {
     let n = reach.len();
     buffers::level(reach, n, floor);
-    guide(words, count, top, reach, lasts, before);
-    let most = period(words, count, 0, reach);
+    let most = guide(words, count, top, reach, lasts, before);
     lift(words, count, top, most, reach);
     settle(words, count, top, reach);
-    period(words, count, 1, reach)
+    period(words, count, reach)
 }
 
 // The offset where the reach is above the period, else 0.

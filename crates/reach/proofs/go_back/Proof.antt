@@ -1,6 +1,6 @@
 -- `go_back`: the launch of pair k is raised to what the pair forces, so each stays a reach (`pair-behind`).
 use native.Mathlib.Omega.{arith}
-use Rattle.reach.proofs.SweepLaws.{pair-raisable, pair-behind}
+use Rattle.reach.proofs.SweepLaws.{guided-start, pair-raisable, pair-behind}
 use borrow.Author.Needs.{needs}
 use Rattle.reach.proofs.go_back.Statement.{statement}
 use Rattle.reach.proofs.go_back.Tie as tie
@@ -15,7 +15,7 @@ returns c =
     let w = c .before .before .before in
     let p = w .before .before in
     let r = p .before .before .before .pre in
-    pair-behind (r .0) (p .pair-at .ensures) (omega (arith, r .0 .list .pairsAre)) (w .raise-launch .ensures)
+    guided-start (pair-behind (r .0) (p .pair-at .ensures) (omega (arith, r .0 .list .pairsAre)) (w .raise-launch .ensures))
 
 pub go-back-spec : {M : Type 1} → statement M
 go-back-spec =

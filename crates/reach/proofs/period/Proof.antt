@@ -1,4 +1,4 @@
--- `period`: the longest period that a pair asks for, or `start`.
+-- `period`: the longest period that a pair asks for, or 1.
 -- Invariant `Asked`: that of the first k pairs, with the pairs from k on, gives the period. What falls: count - k.
 use Prim.Native.Nat.{_-_}
 use native.Mathlib.Omega.{arith}
@@ -8,13 +8,13 @@ use Rattle.reach.proofs.period.Statement.{statement}
 use Rattle.reach.proofs.period.Tie as tie
 
 abbrev Inv-loop : tie.InvT-loop
-Inv-loop words count start reach most₀ k₀ most k = Asked words reach start most k
+Inv-loop words count reach most₀ k₀ most k = Asked words reach most k
 
 abbrev μ-loop : tie.MeasureT-loop
-μ-loop words count start reach most₀ k₀ most k = count - k
+μ-loop words count reach most₀ k₀ most k = count - k
 
 loop-holds : tie.Need-loop-holds Inv-loop μ-loop
-loop-holds c = asked-start (c .before .before .args .start)
+loop-holds c = asked-start
 
 loop-again : tie.Need-loop-again Inv-loop μ-loop
 loop-again c =

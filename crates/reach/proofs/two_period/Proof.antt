@@ -1,7 +1,7 @@
 -- `two_period`: every reach starts at `floor`, below which no split works, and is raised, first as the guide goes and then to the
--- longest period that a pair asks for; swept, they give the two-timing period (`reached`).
+-- period that it gives, below which none works; swept, they give the two-timing period (`reached`).
 use denote.Ref.{now}
-use Rattle.reach.proofs.SweepLaws.{reaching-start, asked-none, reached}
+use Rattle.reach.proofs.SweepLaws.{reaching-start, reached}
 use borrow.Author.Needs.{needs}
 use Rattle.reach.proofs.two_period.Statement.{statement}
 use Rattle.reach.proofs.two_period.Tie as tie
@@ -14,16 +14,16 @@ guide-requires c κs =
 
 lift-requires : tie.Need-lift-requires
 lift-requires c κs =
-    let r = c .before .before .before .before .before .guide .ensures in
-    (r, asked-none r (c .before .period .ensures))
+    let g = c .before .before .before .guide .ensures in
+    (g .reaching, g .none)
 
 settle-requires : tie.Need-settle-requires
 settle-requires c κs = c .before .before .before .lift .ensures
 
 returns : tie.Need-returns
-returns c = reached (c .before .before .before .before .settle .ensures) (c .period2 .ensures)
+returns c = reached (c .before .before .before .before .settle .ensures) (c .period .ensures)
 
 pub two-period-spec : {M : Type 1} → statement M
 two-period-spec =
     tie.close
-    (tie.spec (λ c κs. search needs) guide-requires (λ c κs. search needs) lift-requires settle-requires (λ c κs. search needs) (λ c. search needs) returns)
+    (tie.spec (λ c κs. search needs) guide-requires lift-requires settle-requires (λ c κs. search needs) (λ c. search needs) returns)
