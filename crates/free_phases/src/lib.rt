@@ -1,6 +1,7 @@
-// Raises from register to register, in phases: the registers that rose are taken by their times, the latest first, each with the
-// rules that start from it. What is raised past the time of the register at hand waits for the next phase, so that a phase takes
-// each register once. Which register comes when is a hint only; the rules are looked up in the list.
+// Raises from register to register: a register that rose is visited, and the rules that start from it are applied.
+// First the registers stand in line. Where that does not come to an end soon, they are taken in phases: the latest first, from a
+// heap; what is raised past the time of the register at hand waits in line for the next phase, so that a phase takes each once.
+// Which register comes when is a hint only; the rules are looked up in the list.
 ghost use Rattle.timing.specs.Limits.{maxTiming};
 ghost use Rattle.list_format.specs.Lists.{pairs};
 ghost use Rattle.free_laws.specs.Constraint.{constraints, Bound};
@@ -8,20 +9,35 @@ ghost use Rattle.free_laws.specs.Raise.{Risen};
 ghost use Rattle.free_rounds.specs.Raise.{Raising};
 use pair_ends::ENDS;
 use pair_ends::REGISTERS;
+use timing::MAX_PAIRS;
 
-// How many registers are in the heap, for this phase, and how many wait in line for the next.
+// How many registers are in the heap and how many in line, where the line begins, how many ends may still be looked at before
+// the heap is used, the register at hand, and the time past which what it raises goes in line.
 pub struct Queue {
     pub heap: usize,
     pub waiting: usize,
+    pub first: usize,
+    pub left: usize,
+    pub at: usize,
+    pub from: u32,
 }
 
-// The mark of a register that waits, in place of its place in the heap.
+// The mark of a register in line, in place of its place in the heap.
 const WAITS: u16 = 0xFFFF;
 
-// Register r waits for the next phase.
+// So many ends for each pair are looked at from the line before the heap is used.
+const LINE: usize = 8;
+
+const MOST: usize = 2 * MAX_PAIRS;
+
+// Place i of the line.
+fn in_line(first: usize, i: usize) -> usize {
+    first % REGISTERS + i % REGISTERS
+}
+
+// Register r stands in line.
 fn wait(w: Queue, r: usize, place: &mut [u16; REGISTERS], line: &mut [u16; REGISTERS]) -> Queue {
-    let at = w.waiting;
-    if at >= REGISTERS {
+    if w.waiting >= REGISTERS {
         return w;
     }
     if r >= REGISTERS {
@@ -31,16 +47,24 @@ fn wait(w: Queue, r: usize, place: &mut [u16; REGISTERS], line: &mut [u16; REGIS
         return w;
     }
     place[r] = WAITS;
-    line[at] = r as u16;
+    line[in_line(w.first, w.waiting) % REGISTERS] = r as u16;
     let mut next = w;
-    next.waiting = at + 1;
+    next.waiting = w.waiting + 1;
     next
 }
 
-// Register r rose, by a rule from a register at the time `from`: it is taken in this phase, or in the next if it is later than that.
+// One end more has been looked at.
+fn spent(w: Queue) -> Queue {
+    let mut next = w;
+    if w.left > 0 {
+        next.left = w.left - 1;
+    }
+    next
+}
+
+// Register r rose: it goes in the heap, or in line.
 fn enter(
     x: &[u32],
-    from: u32,
     w: Queue,
     r: usize,
     heap: &mut [u16; REGISTERS],
@@ -54,7 +78,7 @@ fn enter(
         return w;
     }
     let mut next = w;
-    if from < x[r] {
+    if w.from < x[r] {
         next.heap = register_heap::remove(x, heap, place, w.heap, r);
         return wait(next, r, place, line);
     }
@@ -62,7 +86,7 @@ fn enter(
     next
 }
 
-// The rules that start from register r, at its time `from`: rule e - 1 is the one of end e.
+// The rules that start from the register at hand: rule e - 1 is the one of end e.
 fn visit(
     words: &[u32],
     count: usize,
@@ -71,8 +95,6 @@ fn visit(
     period: u32,
     lasts: &[u16; REGISTERS],
     before: &[u16; ENDS],
-    r: usize,
-    from: u32,
     w: Queue,
     heap: &mut [u16; REGISTERS],
     place: &mut [u16; REGISTERS],
@@ -82,36 +104,33 @@ fn visit(
     ensures { λ u. ⌜ Risen maxTiming (constraints period (pairs (now (words .entry)))) (now (x .entry)) (now (x .exit)) ⌝ }
 {
     let mut now = w;
-    let mut end = pair_ends::last_at(lasts, r);
+    let mut end = pair_ends::last_at(lasts, w.at);
     while end > 0 {
         let rule = ((end - 1) % ENDS) as u32;
         let raised = free_rounds::apply(words, count, x, parents, period, rule);
-        now = enter(x, from, now, raised, heap, place, line);
+        now = enter(x, spent(now), raised, heap, place, line);
         end = pair_ends::end_before(before, end);
     }
     now
 }
 
-// The next phase: all that wait are put in the heap.
+// The next phase: all that stand in line are put in the heap, which is empty. Its size.
 fn refill(
     x: &[u32],
-    waiting: usize,
+    w: Queue,
     heap: &mut [u16; REGISTERS],
     place: &mut [u16; REGISTERS],
     line: &[u16; REGISTERS],
-) -> Queue {
+) -> usize {
     let mut size = 0;
     let mut i = 0;
-    while i < waiting {
-        let r = register_heap::register_at(line, i);
+    while i < w.waiting {
+        let r = register_heap::register_at(line, in_line(w.first, i));
         place[r % REGISTERS] = 0;
         size = register_heap::put(x, heap, place, size, r);
         i += 1;
     }
-    Queue {
-        heap: size,
-        waiting: 0,
-    }
+    size
 }
 
 // The time of register r, 0 where it has none.
@@ -119,45 +138,50 @@ fn time_of(x: &[u32], r: usize) -> u32 {
     if r < x.len() { x[r] } else { 0 }
 }
 
-// The latest register is taken out of the heap and visited; an empty heap is filled first.
-fn turn(
-    words: &[u32],
-    count: usize,
-    x: &mut [u32],
-    parents: &mut [u32; REGISTERS],
-    period: u32,
-    lasts: &[u16; REGISTERS],
-    before: &[u16; ENDS],
+// The first in line is at hand; all that it raises goes in line.
+fn first_in_line(w: Queue, place: &mut [u16; REGISTERS], line: &[u16; REGISTERS]) -> Queue {
+    let mut next = w;
+    if w.waiting > 0 {
+        next.waiting = w.waiting - 1;
+    }
+    next.first = in_line(w.first, 1) % REGISTERS;
+    next.at = register_heap::register_at(line, w.first);
+    next.from = 0;
+    place[next.at % REGISTERS] = 0;
+    next
+}
+
+// The latest in the heap is at hand; an empty heap is filled first.
+fn latest(
+    x: &[u32],
     w: Queue,
     heap: &mut [u16; REGISTERS],
     place: &mut [u16; REGISTERS],
-    line: &mut [u16; REGISTERS],
-) -> Queue
-    requires { ⌜ Raising (now words) count period (now x) ⌝ }
-    ensures { λ u. ⌜ Risen maxTiming (constraints period (pairs (now (words .entry)))) (now (x .entry)) (now (x .exit)) ⌝ }
-{
-    let mut now = w;
-    if now.heap == 0 {
-        now = refill(x, w.waiting, heap, place, line);
+    line: &[u16; REGISTERS],
+) -> Queue {
+    let mut next = w;
+    if w.heap == 0 {
+        next.heap = refill(x, w, heap, place, line);
+        next.waiting = 0;
     }
-    let r = register_heap::register_at(heap, 0);
-    now.heap = register_heap::remove(x, heap, place, now.heap, r);
-    let from = time_of(x, r);
-    visit(
-        words,
-        count,
-        x,
-        parents,
-        period,
-        lasts,
-        before,
-        r,
-        from,
-        now,
-        heap,
-        place,
-        line,
-    )
+    next.at = register_heap::register_at(heap, 0);
+    next.from = time_of(x, next.at);
+    next.heap = register_heap::remove(x, heap, place, next.heap, next.at);
+    next
+}
+
+// The next register is at hand.
+fn take(
+    x: &[u32],
+    w: Queue,
+    heap: &mut [u16; REGISTERS],
+    place: &mut [u16; REGISTERS],
+    line: &[u16; REGISTERS],
+) -> Queue {
+    if w.left > 0 {
+        return first_in_line(w, place, line);
+    }
+    latest(x, w, heap, place, line)
 }
 
 // Turns until none is left in the heap or in line, or as many have been taken as there are registers.
@@ -184,7 +208,8 @@ fn chase(
         if none_left(now) {
             return now;
         }
-        now = turn(
+        now = take(x, now, heap, place, line);
+        now = visit(
             words,
             count,
             x,
@@ -215,7 +240,7 @@ pub fn remember(x: &[u32], old: &mut [u32; REGISTERS]) {
     }
 }
 
-// Register r, if it rose since its time was remembered, is moved up in the heap, or waits for the next phase.
+// Register r, if it rose since its time was remembered, is moved up in the heap, or stands in line.
 fn rejoin(
     x: &[u32],
     old: &[u32; REGISTERS],
@@ -228,10 +253,16 @@ fn rejoin(
     if time_of(x, r) == old[r % REGISTERS] {
         return w;
     }
-    if place[r % REGISTERS] == 0 {
+    let at = place[r % REGISTERS];
+    if at == 0 {
         return wait(w, r, place, line);
     }
-    enter(x, timing::MAX_TIMING, w, r, heap, place, line)
+    if at == WAITS {
+        return w;
+    }
+    let mut next = w;
+    next.heap = register_heap::put(x, heap, place, w.heap, r);
+    next
 }
 
 // All registers that rose since their times were remembered.
@@ -274,6 +305,10 @@ pub fn settle(
     let mut w = Queue {
         heap: 0,
         waiting: 0,
+        first: 0,
+        left: LINE * (count % MOST),
+        at: 0,
+        from: 0,
     };
     let mut left = x.len();
     while left > 0 {

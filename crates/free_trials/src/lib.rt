@@ -51,7 +51,7 @@ fn judge(
 }
 
 // Rounds over the list before the registers are taken one by one.
-const FEW: usize = 3;
+const FEW: usize = 2;
 
 // A few rounds over the list, each with raises along the parents after it; `old` keeps the times before the last of them.
 // A longer period if a cycle of parents asks for one, else 0.

@@ -26,18 +26,18 @@ same-length c = c .before .before .before .loop .inv .size
 returns : tie.Need-returns Inv-loop μ-loop
 returns c = c .before .before .before .loop .inv
 
-turn-requires : tie.Need-turn-requires Inv-loop μ-loop
-turn-requires c κs =
-    let l = c .before .before .before .before .before .before .before .before in
+visit-requires : tie.Need-visit-requires Inv-loop μ-loop
+visit-requires c κs =
+    let l = c .before .before .before .before .before .before .before .before .before .before .before .before .before in
     raising-kept (l .before .before .before .pre) (l .loop .inv)
 
 loop-less : tie.Need-loop-less Inv-loop μ-loop
-loop-less c = omega arith
+loop-less c = omega (arith, c .before .before .before .before .before .before .before .before .before .before .before .before .before .before .before .loop-test .taken)
 
 loop-again : tie.Need-loop-again Inv-loop μ-loop
 loop-again c =
-    let t = c .before .before in
-    risen-then (t .before .before .before .before .before .before .before .before .before .loop .inv) (t .turn .ensures)
+    let v = c .before .before in
+    risen-then (v .before .before .before .before .before .before .before .before .before .before .before .before .before .before .loop .inv) (v .visit .ensures)
 
 same-length-2 : tie.Need-same-length-2 Inv-loop μ-loop
 same-length-2 c = c .before .loop .inv .size
@@ -49,5 +49,5 @@ pub chase-spec : {M : Type 1} → statement M
 chase-spec =
     tie.close
     (tie.spec
-    Inv-loop μ-loop loop-holds (λ c. search needs) (λ c κs. search needs) same-length returns turn-requires loop-less
-    loop-again same-length-2 returns-2)
+    Inv-loop μ-loop loop-holds (λ c. search needs) (λ c κs. search needs) same-length returns (λ c κs. search needs)
+    visit-requires loop-less loop-again same-length-2 returns-2)

@@ -1,5 +1,5 @@
 -- `refill`: safe, and it ends.
--- Invariant: i ≤ waiting. What falls: waiting - i.
+-- Invariant: i ≤ waiting, the count of registers in line. What falls: waiting - i.
 use Prim.Native.Nat.{_-_, _≤_}
 use native.Mathlib.Omega.{arith}
 use borrow.Author.Needs.{needs}
@@ -7,10 +7,10 @@ use Rattle.free_phases.proofs.refill.Statement.{statement}
 use Rattle.free_phases.proofs.refill.Tie as tie
 
 abbrev Inv-loop : tie.InvT-loop
-Inv-loop x waiting heap₀ place₀ line size₀ i₀ heap place size i = i ≤ waiting
+Inv-loop x w heap₀ place₀ line size₀ i₀ heap place size i = i ≤ w .waiting
 
 abbrev μ-loop : tie.MeasureT-loop
-μ-loop x waiting heap₀ place₀ line size₀ i₀ heap place size i = waiting - i
+μ-loop x w heap₀ place₀ line size₀ i₀ heap place size i = w .waiting - i
 
 loop-holds : tie.Need-loop-holds Inv-loop μ-loop
 loop-holds c = omega arith
@@ -25,5 +25,5 @@ pub refill-spec : {M : Type 1} → statement M
 refill-spec =
     tie.close
     (tie.spec
-    Inv-loop μ-loop loop-holds (λ c κs. search needs) (λ c. search needs) (λ c. search needs) (λ c κs. search needs)
-    (λ c. search needs) loop-less loop-again (λ c. search needs))
+    Inv-loop μ-loop loop-holds (λ c κs. search needs) (λ c κs. search needs) (λ c. search needs) (λ c. search needs)
+    (λ c κs. search needs) (λ c. search needs) loop-less loop-again (λ c. search needs))

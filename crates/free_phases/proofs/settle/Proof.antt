@@ -72,5 +72,6 @@ pub settle-spec : {M : Type 1} → statement M
 settle-spec =
     tie.close
     (tie.spec
-    Inv-loop μ-loop loop-holds (λ c. search needs) (λ c κs. search needs) chase-requires (λ c κs. search needs) same-length
-    returns (λ c κs. search needs) carry-requires same-length-2 returns-2 loop-less loop-again same-length-3 returns-3)
+    Inv-loop μ-loop (λ c. search needs) loop-holds (λ c. search needs) (λ c κs. search needs) chase-requires
+    (λ c κs. search needs) same-length returns (λ c κs. search needs) carry-requires same-length-2 returns-2 loop-less
+    loop-again same-length-3 returns-3)

@@ -17,7 +17,7 @@ abbrev Inv-loop : tie.InvT-loop
 Inv-loop words count x₀ parents₀ period old₀ done₀ x parents old done = Risen maxTiming (constraints period (pairs words)) x₀ x
 
 abbrev μ-loop : tie.MeasureT-loop
-μ-loop words count x₀ parents₀ period old₀ done₀ x parents old done = 3 - done
+μ-loop words count x₀ parents₀ period old₀ done₀ x parents old done = 2 - done
 
 loop-holds : tie.Need-loop-holds Inv-loop μ-loop
 loop-holds c = risen-start (c .before .before .pre)
