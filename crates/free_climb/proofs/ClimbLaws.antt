@@ -87,6 +87,13 @@ module _ {ws : List ℕ} {n count : ℕ} (r : AcceptedList ws n count) where
   pub trial-of : {u : ℕ} {x : List ℕ} → length x ≡ registers ws → 1 ≤ u → Bound (pairs ws) u → Trial ws count u x
   trial-of e pos b = record { list = record { accepted = r .accepted; registersAre = e; pairsAre = r .pairsAre }; pos = pos; bound = b }
 
+  left-undecided : {u : ℕ} {x : List ℕ} → 1 ≤ u → Bound (pairs ws) u → Ascended ws x (Undecided u)
+  left-undecided {u} pos b =
+      record {
+        settled = λ v e. let z : _≡_ {A = ℕ} 0 1 = cc in absurd (omega arith);
+        undecided = λ v e. let same : u ≡ v = cc in rw (← same) (pos, b);
+      }
+
   module _ {t next : ℕ} {x : List ℕ} (c : Climbing ws t x next) where
     pub climbing-tries : t < next → Trial ws count next x
     climbing-tries h = trial-of (c .size) (omega arith) (c .sought .tried (omega arith) .bound)
@@ -110,8 +117,8 @@ module _ {ws : List ℕ} {n count : ℕ} (r : AcceptedList ws n count) where
         }
 
     pub ascended-undecided : Ascended ws x (Undecided t)
-    ascended-undecided =
-        record {
-          settled = λ u e. let z : _≡_ {A = ℕ} 0 1 = cc in absurd (omega arith);
-          undecided = λ u e. let same : t ≡ u = cc in rw (← same) (c .pos, c .bound);
-        }
+    ascended-undecided = left-undecided (c .pos) (c .bound)
+
+    -- a longer period was told, and is left to others
+    pub ascended-onward : t < next → Ascended ws x (Undecided next)
+    ascended-onward h = left-undecided (climbing-tries h .pos) (climbing-tries h .bound)

@@ -68,11 +68,48 @@ pub enum Ascent {
     Undecided(u32),
 }
 
+// Up to so many pairs a round takes less time than what stands behind it; then a few plain trials come first.
+const FEW_PAIRS: usize = 512;
+
+const TRIALS: usize = 8;
+
+const ROUNDS: usize = 7;
+
+// A few trials of longer and longer periods by plain rounds.
+fn set_out(
+    words: &[u32],
+    count: usize,
+    x: &mut [u32],
+    parents: &mut [u32; REGISTERS],
+    start: u32,
+) -> Ascent
+    requires { ⌜ Trial (now words) count start (now x) ⌝ }
+    ensures { λ r. ⌜ Ascended (now (words .entry)) (now (x .exit)) r ⌝ }
+{
+    let mut left = TRIALS;
+    let mut period = start;
+    let mut next = free_trials::plain(words, count, x, parents, ROUNDS, period);
+    while period < next {
+        if left == 0 {
+            return Ascent::Undecided(next);
+        }
+        left -= 1;
+        period = next;
+        next = free_trials::plain(words, count, x, parents, ROUNDS, period);
+    }
+    if next < period {
+        return Ascent::Undecided(period);
+    }
+    Ascent::Done(period)
+}
+
 // Trials of longer and longer periods, each with the parents that the one before it left.
 fn ascend(
     words: &[u32],
     count: usize,
     x: &mut [u32],
+    parents: &mut [u32; REGISTERS],
+    kept: bool,
     lasts: &[u16; REGISTERS],
     before: &[u16; ENDS],
     start: u32,
@@ -80,12 +117,11 @@ fn ascend(
     requires { ⌜ Trial (now words) count start (now x) ⌝ }
     ensures { λ r. ⌜ Ascended (now (words .entry)) (now (x .exit)) r ⌝ }
 {
-    let mut parents = [NONE; REGISTERS];
     let mut period = start;
-    let mut next = free_trials::quick(words, count, x, &mut parents, false, lasts, before, period);
+    let mut next = free_trials::quick(words, count, x, parents, kept, lasts, before, period);
     while period < next {
         period = next;
-        next = free_trials::quick(words, count, x, &mut parents, true, lasts, before, period);
+        next = free_trials::quick(words, count, x, parents, true, lasts, before, period);
     }
     if next < period {
         return Ascent::Undecided(period);
@@ -107,6 +143,26 @@ fn finish(words: &[u32], count: usize, x: &mut [u32], start: u32) -> u32
     period
 }
 
+// The climb from a period, with parents that may be kept from another.
+fn climb_on(
+    words: &[u32],
+    count: usize,
+    x: &mut [u32],
+    parents: &mut [u32; REGISTERS],
+    kept: bool,
+    lasts: &[u16; REGISTERS],
+    before: &[u16; ENDS],
+    start: u32,
+) -> u32
+    requires { ⌜ Trial (now words) count start (now x) ⌝ }
+    ensures { λ r. ⌜ Climbed (now (words .entry)) (now (x .exit)) r ⌝ }
+{
+    match ascend(words, count, x, parents, kept, lasts, before, start) {
+        Ascent::Done(period) => period,
+        Ascent::Undecided(period) => finish(words, count, x, period),
+    }
+}
+
 // The free period; the free schedule fills x.
 pub fn climb(
     words: &[u32],
@@ -118,8 +174,31 @@ pub fn climb(
     requires { ⌜ AcceptedList (now words) (length (now x)) count ⌝ }
     ensures { λ r. ⌜ Climbed (now (words .entry)) (now (x .exit)) r ⌝ }
 {
-    match ascend(words, count, x, lasts, before, lowest(words, count)) {
+    let mut parents = [NONE; REGISTERS];
+    let start = lowest(words, count);
+    if count > FEW_PAIRS {
+        return climb_on(
+            words,
+            count,
+            x,
+            &mut parents,
+            false,
+            lasts,
+            before,
+            start,
+        );
+    }
+    match set_out(words, count, x, &mut parents, start) {
         Ascent::Done(period) => period,
-        Ascent::Undecided(period) => finish(words, count, x, period),
+        Ascent::Undecided(period) => climb_on(
+            words,
+            count,
+            x,
+            &mut parents,
+            true,
+            lasts,
+            before,
+            period,
+        ),
     }
 }

@@ -50,6 +50,31 @@ fn judge(
     0
 }
 
+// A trial by so many rounds over the list at most; 0 if they leave the period undecided.
+pub fn plain(
+    words: &[u32],
+    count: usize,
+    x: &mut [u32],
+    parents: &mut [u32; PARENTS],
+    most: usize,
+    period: u32,
+) -> u32
+    requires { ⌜ Trial (now words) count period (now x) ⌝ }
+    ensures { λ r. ⌜ Sought (now (words .entry)) period (now (x .exit)) r ⌝ }
+{
+    clear(x);
+    let mut done = 0;
+    while done < most {
+        let last = free_rounds::round(words, count, x, parents, period, done % 2 == 1);
+        let found = judge(words, count, x, parents, period, last);
+        if period <= found {
+            return found;
+        }
+        done += 1;
+    }
+    0
+}
+
 // Rounds over the list before the registers are taken one by one.
 const FEW: usize = 2;
 
