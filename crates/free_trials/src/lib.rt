@@ -50,6 +50,15 @@ fn judge(
     0
 }
 
+// No register has a parent.
+fn forget(parents: &mut [u32; PARENTS]) {
+    let mut i = 0;
+    while i < PARENTS {
+        parents[i] = NONE;
+        i += 1;
+    }
+}
+
 // A trial by so many rounds over the list at most; 0 if they leave the period undecided.
 pub fn plain(
     words: &[u32],
@@ -63,6 +72,7 @@ pub fn plain(
     ensures { λ r. ⌜ Sought (now (words .entry)) period (now (x .exit)) r ⌝ }
 {
     clear(x);
+    forget(parents);
     let mut done = 0;
     while done < most {
         let last = free_rounds::round(words, count, x, parents, period, done % 2 == 1);
