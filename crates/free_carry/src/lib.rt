@@ -159,16 +159,7 @@ pub fn carry(
     let mut most = 0;
     let mut r = 0;
     while r < x.len() {
-        let longer = branch(
-            words,
-            count,
-            x,
-            parents,
-            period,
-            r,
-            &mut marks,
-            &mut stack,
-        );
+        let longer = branch(words, count, x, parents, period, r, &mut marks, &mut stack);
         most = larger(most, longer);
         r += 1;
     }

@@ -177,16 +177,7 @@ pub fn climb(
     let mut parents = [NONE; REGISTERS];
     let start = lowest(words, count);
     if count > FEW_PAIRS {
-        return climb_on(
-            words,
-            count,
-            x,
-            &mut parents,
-            false,
-            lasts,
-            before,
-            start,
-        );
+        return climb_on(words, count, x, &mut parents, false, lasts, before, start);
     }
     match set_out(words, count, x, &mut parents, start) {
         Ascent::Done(period) => period,

@@ -88,6 +88,9 @@ pub fn plain(
 // Rounds over the list before the registers are taken one by one.
 const FEW: usize = 2;
 
+// No longer period is shown.
+const NOTHING: u32 = 0;
+
 // A few rounds over the list, each with raises along the parents after it; `old` keeps the times before the last of them.
 // A longer period if a cycle of parents asks for one, else 0.
 fn rounds(
@@ -107,7 +110,7 @@ fn rounds(
         free_phases::remember(x, old);
         let last = free_rounds::round(words, count, x, parents, period, done % 2 == 1);
         if last >= x.len() {
-            return 0;
+            return NOTHING;
         }
         let longer = free_carry::carry(words, count, x, parents, period);
         if period < longer {
@@ -115,7 +118,7 @@ fn rounds(
         }
         done += 1;
     }
-    0
+    NOTHING
 }
 
 // Raises along the parents, if they are kept from another period.
@@ -163,16 +166,7 @@ fn seek(
     if period < longer {
         return longer;
     }
-    free_phases::settle(
-        words,
-        count,
-        x,
-        parents,
-        period,
-        lasts,
-        before,
-        &mut old,
-    )
+    free_phases::settle(words, count, x, parents, period, lasts, before, &mut old)
 }
 
 // A trial that may start from parents kept from another period, a hint; 0 if it leaves the period undecided.
