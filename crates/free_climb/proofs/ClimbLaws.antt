@@ -6,10 +6,11 @@ use native.Mathlib.Nat.{sub-zero}
 use native.Mathlib.Omega.{arith}
 use lib.ListN.{length}
 use Rattle.timing.specs.declared.Pair.{Pair}
-use Rattle.list_format.specs.Lists.{registers, pairCount, pairAt, pairsFrom, pairs, IsPair, AcceptedList}
-use Rattle.list_format.proofs.ListLaws.{pairs-in-range}
+use Rattle.timing.specs.Limits.{maxPeriod}
+use Rattle.list_format.specs.Lists.{registers, pairCount, pairAt, pairsFrom, pairs, IsPair, IsAccepted, AcceptedList}
+use Rattle.list_format.proofs.ListLaws.{pairs-in-range, pairs-within}
 use Rattle.free_laws.specs.Free.{common}
-use Rattle.free_laws.proofs.FreeLaws.{common-pos}
+use Rattle.free_laws.proofs.FreeLaws.{common-pos, common-limit}
 use Rattle.free_laws.specs.Constraint.{Bound}
 use Rattle.free_laws.proofs.Bound.{bound-max, bound-period, bound-schedule}
 use Rattle.free_rounds.proofs.RoundLaws.{rules-at}
@@ -64,6 +65,10 @@ module _ {ws : List ℕ} {most k : ℕ} (l : Largest ws most k) where
       let none : pairCount ws - k ≡ 0 = omega arith in
       let all = rw none at (l .same) in
       omega (arith, all, l .pos)
+
+-- it is within the limit of a period
+pub common-within : (ws : List ℕ) {c : ℕ} → IsAccepted ws → c ≡ common (pairs ws) → c ≤ maxPeriod
+common-within ws a e = rw e (common-limit maxPeriod (omega arith) (pairs ws) (pairs-within ws a))
 
 -- ---- the climb
 

@@ -71,7 +71,8 @@ pub enum Ascent {
 // Up to so many pairs a round takes less time than what stands behind it; then a few plain trials come first.
 const FEW_PAIRS: usize = 512;
 
-const TRIALS: usize = 8;
+// Trials of one kind before the next kind.
+const TRIALS: usize = 4;
 
 const ROUNDS: usize = 7;
 
@@ -103,6 +104,58 @@ fn set_out(
     Ascent::Done(period)
 }
 
+// Between a period below which there is no schedule and the common period, by halving: where raises come to an end, a shorter one
+// is sought, else a longer one. A period below which there is no schedule either.
+fn narrow(
+    words: &[u32],
+    count: usize,
+    x: &mut [u32],
+    parents: &mut [u32; REGISTERS],
+    lasts: &[u16; REGISTERS],
+    before: &[u16; ENDS],
+    start: u32,
+) -> u32
+    requires { ⌜ Trial (now words) count start (now x) ⌝ }
+    ensures { λ r. ⌜ Trial (now (words .entry)) count r (now (x .exit)) × (start ≤ r) ⌝ }
+{
+    let mut low = start;
+    let mut high = common(words, count);
+    while low < high {
+        let middle = low + (high - low) / 2;
+        let longer = free_trials::seek(words, count, x, parents, true, middle, lasts, before);
+        if middle < longer {
+            low = longer;
+        } else {
+            high = middle;
+        }
+    }
+    low
+}
+
+fn fewer(left: usize) -> usize {
+    if left > 0 { left - 1 } else { 0 }
+}
+
+// The next period to try: the one that was shown, or, where no trials are left, one that halving finds.
+fn go_on(
+    words: &[u32],
+    count: usize,
+    x: &mut [u32],
+    parents: &mut [u32; REGISTERS],
+    lasts: &[u16; REGISTERS],
+    before: &[u16; ENDS],
+    left: usize,
+    shown: u32,
+) -> u32
+    requires { ⌜ Trial (now words) count shown (now x) ⌝ }
+    ensures { λ r. ⌜ Trial (now (words .entry)) count r (now (x .exit)) × (shown ≤ r) ⌝ }
+{
+    if left > 0 {
+        return shown;
+    }
+    narrow(words, count, x, parents, lasts, before, shown)
+}
+
 // Trials of longer and longer periods, each with the parents that the one before it left.
 fn ascend(
     words: &[u32],
@@ -117,10 +170,12 @@ fn ascend(
     requires { ⌜ Trial (now words) count start (now x) ⌝ }
     ensures { λ r. ⌜ Ascended (now (words .entry)) (now (x .exit)) r ⌝ }
 {
+    let mut left = TRIALS;
     let mut period = start;
     let mut next = free_trials::quick(words, count, x, parents, kept, lasts, before, period);
     while period < next {
-        period = next;
+        period = go_on(words, count, x, parents, lasts, before, left, next);
+        left = fewer(left);
         next = free_trials::quick(words, count, x, parents, true, lasts, before, period);
     }
     if next < period {

@@ -142,7 +142,7 @@ fn resume(
 
 // All registers from 0 as far up as rules are seen to ask: along parents that are kept from another period, by a few rounds,
 // then from register to register. A longer period if a cycle of parents asks for one, else no more than this one.
-fn seek(
+pub fn seek(
     words: &[u32],
     count: usize,
     x: &mut [u32],

@@ -12,35 +12,33 @@ use Rattle.free_climb.proofs.ascend.Statement.{statement}
 use Rattle.free_climb.proofs.ascend.Tie as tie
 
 abbrev Inv-loop : tie.InvT-loop
-Inv-loop words count x₀ parents₀ kept lasts before start period₀ next₀ x parents period next = Climbing words period x next
+Inv-loop words count x₀ parents₀ kept lasts before start left₀ period₀ next₀ x parents left period next = Climbing words period x next
 
 abbrev μ-loop : tie.MeasureT-loop
-μ-loop words count x₀ parents₀ kept lasts before start period₀ next₀ x parents period next = common (pairs words) + 1 - period
+μ-loop words count x₀ parents₀ kept lasts before start left₀ period₀ next₀ x parents left period next = common (pairs words) + 1 - period
 
 loop-holds : tie.Need-loop-holds Inv-loop μ-loop
 loop-holds c =
     let w = c .before .before in
     climbing-after (w .before .before .before .before .before .pre) (w .quick .kept .1 .1 .0) (w .quick .ensures)
 
-quick-requires-2 : tie.Need-quick-requires-2 Inv-loop μ-loop
-quick-requires-2 c κs =
+go-on-requires : tie.Need-go-on-requires Inv-loop μ-loop
+go-on-requires c κs =
     let l = c .before .before in
     climbing-tries (l .before .before .before .before .before .before .before .before .before .pre .list) (l .before .loop .inv) (l .loop-test .taken)
 
+quick-requires-2 : tie.Need-quick-requires-2 Inv-loop μ-loop
+quick-requires-2 c κs = c .before .before .before .before .before .go-on .ensures .0
+
 loop-less : tie.Need-loop-less Inv-loop μ-loop
 loop-less c =
-    let l = c .before .before .before .before .before in
-    let i = l .before in
-    let trial = climbing-tries (i .before .before .before .before .before .before .before .before .pre .list) (i .loop .inv) (l .loop-test .taken) in
-    omega (arith, bound-common (trial .bound))
+    let g = c .before .before .before .before .before .before .before .before in
+    omega (arith, g .before .before .before .loop-test .taken, g .go-on .ensures .1, bound-common (g .go-on .ensures .0 .bound))
 
 loop-again : tie.Need-loop-again Inv-loop μ-loop
 loop-again c =
     let w = c .before .before in
-    let l = w .before .before .before in
-    let i = l .before in
-    let trial = climbing-tries (i .before .before .before .before .before .before .before .before .pre .list) (i .loop .inv) (l .loop-test .taken) in
-    climbing-after trial (w .quick2 .kept .1 .1 .0) (w .quick2 .ensures)
+    climbing-after (c .before .before .before .before .before .before .before .before .go-on .ensures .0) (w .quick2 .kept .1 .1 .0) (w .quick2 .ensures)
 
 same-length : tie.Need-same-length Inv-loop μ-loop
 same-length c =
@@ -66,5 +64,5 @@ pub ascend-spec : {M : Type 1} → statement M
 ascend-spec =
     tie.close
     (tie.spec
-    Inv-loop μ-loop (λ c κs. search needs) loop-holds quick-requires-2 loop-less loop-again same-length returns same-length-2
-    returns-2)
+    Inv-loop μ-loop (λ c κs. search needs) loop-holds go-on-requires (λ c κs. search needs) quick-requires-2 loop-less
+    loop-again same-length returns same-length-2 returns-2)
