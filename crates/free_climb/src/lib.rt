@@ -2,7 +2,7 @@
 // longer periods.
 // The contracts cite `specs/Climbed.antt` and the laws of `free_laws`.
 ghost use mathlib.Core.Path.{_≡_};
-ghost use Prim.Native.Nat.{_-_, _≤_, max};
+ghost use Prim.Native.Nat.{_-_, _≤_, _<_, max};
 ghost use lib.ListN.{length};
 ghost use Rattle.list_format.specs.Lists.{pairCount, pairs, IsAccepted, AcceptedList};
 ghost use Rattle.free_laws.specs.Free.{common as commonOf};
@@ -104,8 +104,19 @@ fn set_out(
     Ascent::Done(period)
 }
 
-// Between a period below which there is no schedule and the common period, by halving: where raises come to an end, a shorter one
-// is sought, else a longer one. A period below which there is no schedule either.
+// A period between two, in the middle or near the first.
+fn between(low: u32, high: u32, far: bool) -> u32
+    requires { ⌜ low < high ⌝ }
+    ensures { λ r. ⌜ (low ≤ r) × (r < high) ⌝ }
+{
+    if far {
+        return low + (high - low) / 2;
+    }
+    low + (high - low) / 8
+}
+
+// Between a period below which there is no schedule and the common period: where raises come to an end, a shorter one is tried
+// next, near the first; where a cycle shows a longer one, from there on in the middle. A period below which there is no schedule.
 fn narrow(
     words: &[u32],
     count: usize,
@@ -120,13 +131,15 @@ fn narrow(
 {
     let mut low = start;
     let mut high = common(words, count);
+    let mut far = false;
     while low < high {
-        let middle = low + (high - low) / 2;
-        let longer = free_trials::seek(words, count, x, parents, true, middle, lasts, before);
-        if middle < longer {
+        let at = between(low, high, far);
+        let longer = free_trials::seek(words, count, x, parents, true, at, lasts, before);
+        far = at < longer;
+        if far {
             low = longer;
         } else {
-            high = middle;
+            high = at;
         }
     }
     low
@@ -156,7 +169,7 @@ fn go_on(
     narrow(words, count, x, parents, lasts, before, shown)
 }
 
-// Trials of longer and longer periods, each with the parents that the one before it left.
+// Trials of longer and longer periods, each with the parents that the one before it left; after so many of them by `narrow`.
 fn ascend(
     words: &[u32],
     count: usize,
@@ -165,12 +178,13 @@ fn ascend(
     kept: bool,
     lasts: &[u16; REGISTERS],
     before: &[u16; ENDS],
+    trials: usize,
     start: u32,
 ) -> Ascent
     requires { ⌜ Trial (now words) count start (now x) ⌝ }
     ensures { λ r. ⌜ Ascended (now (words .entry)) (now (x .exit)) r ⌝ }
 {
-    let mut left = TRIALS;
+    let mut left = trials;
     let mut period = start;
     let mut next = free_trials::quick(words, count, x, parents, kept, lasts, before, period);
     while period < next {
@@ -207,12 +221,13 @@ fn climb_on(
     kept: bool,
     lasts: &[u16; REGISTERS],
     before: &[u16; ENDS],
+    trials: usize,
     start: u32,
 ) -> u32
     requires { ⌜ Trial (now words) count start (now x) ⌝ }
     ensures { λ r. ⌜ Climbed (now (words .entry)) (now (x .exit)) r ⌝ }
 {
-    match ascend(words, count, x, parents, kept, lasts, before, start) {
+    match ascend(words, count, x, parents, kept, lasts, before, trials, start) {
         Ascent::Done(period) => period,
         Ascent::Undecided(period) => finish(words, count, x, period),
     }
@@ -232,7 +247,17 @@ pub fn climb(
     let mut parents = [NONE; REGISTERS];
     let start = lowest(words, count);
     if count > FEW_PAIRS {
-        return climb_on(words, count, x, &mut parents, false, lasts, before, start);
+        return climb_on(
+            words,
+            count,
+            x,
+            &mut parents,
+            false,
+            lasts,
+            before,
+            TRIALS,
+            start,
+        );
     }
     match set_out(words, count, x, &mut parents, start) {
         Ascent::Done(period) => period,
@@ -244,6 +269,7 @@ pub fn climb(
             true,
             lasts,
             before,
+            1,
             period,
         ),
     }

@@ -1,11 +1,12 @@
 -- `narrow`: a period below which there is no schedule, no shorter than the one given.
 -- Invariant `Trial` of the lower end, which is no shorter than at the start, and an upper end within the limit of a period.
 -- What falls: high - low.
-use Prim.Native.Nat.{_-_, _≤_}
+use Prim.Native.Nat.{_-_, _≤_, _<_}
 use denote.Ref.{now}
 use mathlib.Core.Path.{sym, _∙_}
 use native.Mathlib.Nat.{le-refl}
 use native.Mathlib.Omega.{arith}
+use borrow.Author.Tests.{ltb-true}
 use Rattle.timing.specs.Limits.{maxPeriod}
 use Rattle.free_trials.specs.Trial.{Trial}
 use Rattle.free_climb.proofs.ClimbLaws.{trial-of, common-within}
@@ -14,10 +15,10 @@ use Rattle.free_climb.proofs.narrow.Statement.{statement}
 use Rattle.free_climb.proofs.narrow.Tie as tie
 
 abbrev Inv-loop : tie.InvT-loop
-Inv-loop words count x₀ parents₀ lasts before start low₀ high₀ x parents low high = Trial words count low x × ((start ≤ low) × (high ≤ maxPeriod))
+Inv-loop words count x₀ parents₀ lasts before start low₀ high₀ far₀ x parents low high far = Trial words count low x × ((start ≤ low) × (high ≤ maxPeriod))
 
 abbrev μ-loop : tie.MeasureT-loop
-μ-loop words count x₀ parents₀ lasts before start low₀ high₀ x parents low high = high - low
+μ-loop words count x₀ parents₀ lasts before start low₀ high₀ far₀ x parents low high far = high - low
 
 loop-holds : tie.Need-loop-holds Inv-loop μ-loop
 loop-holds c =
@@ -26,34 +27,41 @@ loop-holds c =
 
 seek-requires : tie.Need-seek-requires Inv-loop μ-loop
 seek-requires c κs =
-    let l = c .before .before in
-    let i = l .before .loop .inv in
-    (i .0 .list, omega (arith, i .1 .1, l .loop-test .taken))
+    let b = c .before .before in
+    let i = b .before .before .loop .inv in
+    (i .0 .list, omega (arith, i .1 .1, b .between .ensures .1))
 
 loop-less : tie.Need-loop-less Inv-loop μ-loop
-loop-less c = omega (arith, c .before .before .before .before .before .before .loop-test .taken, c .if1 .taken)
+loop-less c =
+    let s = c .before .before .before in
+    let b = s .before .before .before in
+    let further : b .between .result < s .seek .result = ltb-true _ _ (c .if1 .taken) in
+    omega (arith, b .before .loop-test .taken, b .between .ensures .0, further)
 
 loop-again : tie.Need-loop-again Inv-loop μ-loop
 loop-again c =
     let s = c .before .before .before in
-    let l = s .before .before .before in
-    let i = l .before .loop .inv in
-    let size = s .seek .kept .1 .1 .0 ∙ i .0 .list .registersAre in
-    (
-      trial-of (i .0 .list) size (omega (arith, i .0 .pos, l .loop-test .taken, c .if1 .taken)) (s .seek .ensures .1),
-      (omega (arith, i .1 .0, l .loop-test .taken, c .if1 .taken), i .1 .1),
+    let b = s .before .before .before in
+    let i = b .before .before .loop .inv in
+    let further : b .between .result < s .seek .result = ltb-true _ _ (c .if1 .taken) in
+    let onward : b .before .before .loop .low ≤ s .seek .result = omega (arith, b .between .ensures .0, further) in (
+      trial-of (i .0 .list) (s .seek .kept .1 .1 .0 ∙ i .0 .list .registersAre) (omega (arith, i .0 .pos, onward)) (s .seek .ensures .1),
+      (omega (arith, i .1 .0, onward), i .1 .1),
     )
 
 loop-less-2 : tie.Need-loop-less-2 Inv-loop μ-loop
-loop-less-2 c = omega (arith, c .before .before .before .before .before .before .loop-test .taken)
+loop-less-2 c =
+    let b = c .before .before .before .before .before .before in
+    omega (arith, b .before .loop-test .taken, b .between .ensures .1)
 
 loop-again-2 : tie.Need-loop-again-2 Inv-loop μ-loop
 loop-again-2 c =
     let s = c .before .before .before in
-    let l = s .before .before .before in
-    let i = l .before .loop .inv in
-    let size = s .seek .kept .1 .1 .0 ∙ i .0 .list .registersAre in
-    (trial-of (i .0 .list) size (i .0 .pos) (i .0 .bound), (i .1 .0, omega (arith, i .1 .1, l .loop-test .taken)))
+    let b = s .before .before .before in
+    let i = b .before .before .loop .inv in (
+      trial-of (i .0 .list) (s .seek .kept .1 .1 .0 ∙ i .0 .list .registersAre) (i .0 .pos) (i .0 .bound),
+      (i .1 .0, omega (arith, i .1 .1, b .between .ensures .1)),
+    )
 
 same-length : tie.Need-same-length Inv-loop μ-loop
 same-length c = c .before .loop .inv .0 .list .registersAre ∙ sym (c .before .before .before .before .before .pre .list .registersAre)
@@ -65,5 +73,5 @@ pub narrow-spec : {M : Type 1} → statement M
 narrow-spec =
     tie.close
     (tie.spec
-    Inv-loop μ-loop (λ c κs. search needs) loop-holds (λ c. search needs) (λ c. search needs) seek-requires loop-less
-    loop-again loop-less-2 loop-again-2 same-length returns)
+    Inv-loop μ-loop (λ c κs. search needs) loop-holds (λ c κs. search needs) seek-requires loop-less loop-again loop-less-2
+    loop-again-2 same-length returns)
