@@ -68,15 +68,19 @@ pub enum Ascent {
     Undecided(u32),
 }
 
-// Up to so many pairs a round takes less time than what stands behind it; then a few plain trials come first.
-const FEW_PAIRS: usize = 512;
+// Up to so many pairs, or one for each register, a round takes less time than what stands behind it.
+const FEW_PAIRS: usize = 128;
+
+fn few(count: usize, n: usize) -> bool {
+    if count <= FEW_PAIRS { true } else { count <= n }
+}
 
 // Trials of one kind before the next kind.
 const TRIALS: usize = 4;
 
 const ROUNDS: usize = 7;
 
-// A few trials of longer and longer periods by plain rounds.
+// A few trials of longer and longer periods by plain rounds, for lists of few pairs.
 fn set_out(
     words: &[u32],
     count: usize,
@@ -246,7 +250,7 @@ pub fn climb(
 {
     let mut parents = [NONE; REGISTERS];
     let start = lowest(words, count);
-    if count > FEW_PAIRS {
+    if !few(count, x.len()) {
         return climb_on(
             words,
             count,
