@@ -68,19 +68,15 @@ pub enum Ascent {
     Undecided(u32),
 }
 
-// Up to so many pairs, or one for each register, a round takes less time than what stands behind it.
-const FEW_PAIRS: usize = 128;
-
-fn few(count: usize, n: usize) -> bool {
-    if count <= FEW_PAIRS { true } else { count <= n }
-}
+// Up to so many pairs a round takes less time than what stands behind it; then a few plain trials come first.
+const FEW_PAIRS: usize = 512;
 
 // Trials of one kind before the next kind.
 const TRIALS: usize = 4;
 
 const ROUNDS: usize = 7;
 
-// A few trials of longer and longer periods by plain rounds, for lists of few pairs.
+// A few trials of longer and longer periods by plain rounds.
 fn set_out(
     words: &[u32],
     count: usize,
@@ -250,7 +246,7 @@ pub fn climb(
 {
     let mut parents = [NONE; REGISTERS];
     let start = lowest(words, count);
-    if !few(count, x.len()) {
+    if count > FEW_PAIRS {
         return climb_on(
             words,
             count,

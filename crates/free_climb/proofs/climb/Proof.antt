@@ -7,7 +7,7 @@ use Rattle.free_climb.proofs.climb.Tie as tie
 
 climb-on-requires-2 : tie.Need-climb-on-requires-2
 climb-on-requires-2 c κs =
-    let r = c .before .before .before .before .before .before .before .before .before .before .before .before .before .before .before .pre in
+    let r = c .before .before .before .before .before .before .before .before .before .before .before .before .before .before .pre in
     let a = c .before .before .before .before .before .before .before .set-out in
     let u = a .ensures .undecided _ (c .before .before .before .period2 .given .1) in
     trial-of r (a .kept .1 .1 .0 ∙ r .registersAre) (u .0) (u .1)
@@ -19,6 +19,6 @@ pub climb-spec : {M : Type 1} → statement M
 climb-spec =
     tie.close
     (tie.spec
-    (λ c κs. search needs) (λ c κs. search needs) (λ c κs. search needs) (λ c. search needs) (λ c. search needs)
-    (λ c κs. search needs) (λ c. search needs) (λ c. search needs) climb-on-requires-2 (λ c. search needs) returns-2
-    (λ c. search needs) (λ c. search needs))
+    (λ c κs. search needs) (λ c κs. search needs) (λ c. search needs) (λ c. search needs) (λ c κs. search needs)
+    (λ c. search needs) (λ c. search needs) climb-on-requires-2 (λ c. search needs) returns-2 (λ c. search needs)
+    (λ c. search needs))
