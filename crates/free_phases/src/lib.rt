@@ -26,7 +26,7 @@ pub struct Queue {
 const WAITS: u16 = 0xFFFF;
 
 // So many ends for each pair are looked at from the line before the heap is used.
-const LINE: usize = 8;
+const LINE: usize = 4;
 
 const MOST: usize = 2 * MAX_PAIRS;
 
