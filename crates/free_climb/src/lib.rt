@@ -112,7 +112,7 @@ fn between(low: u32, high: u32, far: bool) -> u32
     if far {
         return low + (high - low) / 2;
     }
-    low + (high - low) / 8
+    low + (high - low) / 64
 }
 
 // Between a period below which there is no schedule and the common period: where raises come to an end, a shorter one is tried
