@@ -15,6 +15,7 @@ use pair_ends::REGISTERS;
 use timing::Pair;
 use timing::larger;
 use timing::less;
+use timing::smaller;
 
 // The shortest period.
 const SHORTEST: u32 = 1;
@@ -115,8 +116,14 @@ fn between(low: u32, high: u32, far: bool) -> u32
     low + (high - low) / 64
 }
 
-// Between a period below which there is no schedule and the common period: where raises come to an end, a shorter one is tried
-// next, near the first; where a cycle shows a longer one, from there on in the middle. A period below which there is no schedule.
+// Two periods: none below the first has a schedule, and at the second raises were seen to come to an end.
+pub struct Range {
+    pub low: u32,
+    pub high: u32,
+}
+
+// The range made smaller, from the common period down: where raises come to an end, a shorter period is tried next, near the
+// first; where a cycle shows a longer one, one in the middle. A trial of the first itself is left to others.
 fn narrow(
     words: &[u32],
     count: usize,
@@ -124,16 +131,19 @@ fn narrow(
     parents: &mut [u32; REGISTERS],
     lasts: &[u16; REGISTERS],
     before: &[u16; ENDS],
-    start: u32,
-) -> u32
-    requires { ⌜ Trial (now words) count start (now x) ⌝ }
-    ensures { λ r. ⌜ Trial (now (words .entry)) count r (now (x .exit)) × (start ≤ r) ⌝ }
+    range: Range,
+) -> Range
+    requires { ⌜ Trial (now words) count (range .low) (now x) ⌝ }
+    ensures { λ r. ⌜ Trial (now (words .entry)) count (r .low) (now (x .exit)) × (range .low ≤ r .low) ⌝ }
 {
-    let mut low = start;
-    let mut high = common(words, count);
+    let mut low = range.low;
+    let mut high = smaller(range.high, common(words, count));
     let mut far = false;
     while low < high {
         let at = between(low, high, far);
+        if at == low {
+            return Range { low: low, high: high };
+        }
         let longer = free_trials::seek(words, count, x, parents, true, at, lasts, before);
         far = at < longer;
         if far {
@@ -142,14 +152,14 @@ fn narrow(
             high = at;
         }
     }
-    low
+    Range { low: low, high: high }
 }
 
 fn fewer(left: usize) -> usize {
     if left > 0 { left - 1 } else { 0 }
 }
 
-// The next period to try: the one that was shown, or, where no trials are left, one that halving finds.
+// The range with the next period to try: as it is, or made smaller where no trials are left.
 fn go_on(
     words: &[u32],
     count: usize,
@@ -158,15 +168,15 @@ fn go_on(
     lasts: &[u16; REGISTERS],
     before: &[u16; ENDS],
     left: usize,
-    shown: u32,
-) -> u32
-    requires { ⌜ Trial (now words) count shown (now x) ⌝ }
-    ensures { λ r. ⌜ Trial (now (words .entry)) count r (now (x .exit)) × (shown ≤ r) ⌝ }
+    range: Range,
+) -> Range
+    requires { ⌜ Trial (now words) count (range .low) (now x) ⌝ }
+    ensures { λ r. ⌜ Trial (now (words .entry)) count (r .low) (now (x .exit)) × (range .low ≤ r .low) ⌝ }
 {
     if left > 0 {
-        return shown;
+        return range;
     }
-    narrow(words, count, x, parents, lasts, before, shown)
+    narrow(words, count, x, parents, lasts, before, range)
 }
 
 // Trials of longer and longer periods, each with the parents that the one before it left; after so many of them by `narrow`.
@@ -185,11 +195,15 @@ fn ascend(
     ensures { λ r. ⌜ Ascended (now (words .entry)) (now (x .exit)) r ⌝ }
 {
     let mut left = trials;
+    let mut high = timing::MAX_PERIOD;
     let mut period = start;
     let mut next = free_trials::quick(words, count, x, parents, kept, lasts, before, period);
     while period < next {
-        period = go_on(words, count, x, parents, lasts, before, left, next);
+        let range = Range { low: next, high: high };
+        let found = go_on(words, count, x, parents, lasts, before, left, range);
         left = fewer(left);
+        high = found.high;
+        period = found.low;
         next = free_trials::quick(words, count, x, parents, true, lasts, before, period);
     }
     if next < period {
