@@ -142,7 +142,10 @@ fn narrow(
     while low < high {
         let at = between(low, high, far);
         if at == low {
-            return Range { low: low, high: high };
+            return Range {
+                low: low,
+                high: high,
+            };
         }
         let longer = free_trials::seek(words, count, x, parents, true, at, lasts, before);
         far = at < longer;
@@ -152,7 +155,10 @@ fn narrow(
             high = at;
         }
     }
-    Range { low: low, high: high }
+    Range {
+        low: low,
+        high: high,
+    }
 }
 
 fn fewer(left: usize) -> usize {
@@ -199,7 +205,10 @@ fn ascend(
     let mut period = start;
     let mut next = free_trials::quick(words, count, x, parents, kept, lasts, before, period);
     while period < next {
-        let range = Range { low: next, high: high };
+        let range = Range {
+            low: next,
+            high: high,
+        };
         let found = go_on(words, count, x, parents, lasts, before, left, range);
         left = fewer(left);
         high = found.high;

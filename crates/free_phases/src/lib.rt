@@ -283,8 +283,54 @@ fn collect(
     now
 }
 
-// From the registers that rose since their times were remembered, until no rule raises any, with raises along the parents
-// after every so many turns. A longer period if a cycle of parents asks for one, else 0.
+// From the registers that rose since their times were remembered: as many turns as there are registers at most.
+fn stretch(
+    words: &[u32],
+    count: usize,
+    x: &mut [u32],
+    parents: &mut [u32; REGISTERS],
+    period: u32,
+    lasts: &[u16; REGISTERS],
+    before: &[u16; ENDS],
+    old: &[u32; REGISTERS],
+    w: Queue,
+    heap: &mut [u16; REGISTERS],
+    place: &mut [u16; REGISTERS],
+    line: &mut [u16; REGISTERS],
+) -> Queue
+    requires { ⌜ Raising (now words) count period (now x) ⌝ }
+    ensures { λ u. ⌜ Risen maxTiming (constraints period (pairs (now (words .entry)))) (now (x .entry)) (now (x .exit)) ⌝ }
+{
+    let now = collect(x, old, w, heap, place, line);
+    chase(
+        words,
+        count,
+        x,
+        parents,
+        period,
+        lasts,
+        before,
+        now,
+        heap,
+        place,
+        line,
+    )
+}
+
+// Nobody in line or in the heap, which is used once so many ends have been looked at.
+fn empty(left: usize) -> Queue {
+    Queue {
+        heap: 0,
+        waiting: 0,
+        first: 0,
+        left: left,
+        at: 0,
+        from: 0,
+    }
+}
+
+// Stretches until no rule raises any register, with raises along the parents after each. A longer period if a cycle of parents
+// asks for one, else 0.
 pub fn settle(
     words: &[u32],
     count: usize,
@@ -302,19 +348,11 @@ pub fn settle(
     let mut heap = [0u16; REGISTERS];
     let mut place = [0u16; REGISTERS];
     let mut line = [0u16; REGISTERS];
-    let mut w = Queue {
-        heap: 0,
-        waiting: 0,
-        first: 0,
-        left: LINE * (count % MOST),
-        at: 0,
-        from: 0,
-    };
+    let mut w = empty(LINE * (count % MOST));
     let mut left = x.len();
     while left > 0 {
         left -= 1;
-        w = collect(x, old, w, &mut heap, &mut place, &mut line);
-        w = chase(
+        w = stretch(
             words,
             count,
             x,
@@ -322,6 +360,7 @@ pub fn settle(
             period,
             lasts,
             before,
+            old,
             w,
             &mut heap,
             &mut place,

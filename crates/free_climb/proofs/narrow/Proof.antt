@@ -54,8 +54,7 @@ loop-again c =
     let b = s .before .before .before .before in
     let i = b .before .before .loop .inv in
     let further : b .between .result < s .seek .result = ltb-true _ _ (c .if2 .taken) in
-    let onward : b .before .before .loop .low ≤ s .seek .result = omega (arith, b .between .ensures .0, further) in
-    (
+    let onward : b .before .before .loop .low ≤ s .seek .result = omega (arith, b .between .ensures .0, further) in (
       trial-of (i .0 .list) (s .seek .kept .1 .1 .0 ∙ i .0 .list .registersAre) (omega (arith, i .0 .pos, onward)) (s .seek .ensures .1),
       (omega (arith, i .1 .0, onward), i .1 .1),
     )
@@ -69,8 +68,7 @@ loop-again-2 : tie.Need-loop-again-2 Inv-loop μ-loop
 loop-again-2 c =
     let s = c .before .before .before in
     let b = s .before .before .before .before in
-    let i = b .before .before .loop .inv in
-    (
+    let i = b .before .before .loop .inv in (
       trial-of (i .0 .list) (s .seek .kept .1 .1 .0 ∙ i .0 .list .registersAre) (i .0 .pos) (i .0 .bound),
       (i .1 .0, omega (arith, i .1 .1, b .between .ensures .1)),
     )

@@ -42,7 +42,8 @@ loop-again c =
     let w = c .before .before in
     let l = w .before .before .before .before in
     let i = l .before in
-    climbing-after (climbing-tries (i .before .before .before .before .before .before .before .before .pre .list) (i .loop .inv) (l .loop-test .taken)) (w .plain2 .kept .1 .1 .0) (w .plain2 .ensures)
+    let trial = climbing-tries (i .before .before .before .before .before .before .before .before .pre .list) (i .loop .inv) (l .loop-test .taken) in
+    climbing-after trial (w .plain2 .kept .1 .1 .0) (w .plain2 .ensures)
 
 same-length-2 : tie.Need-same-length-2 Inv-loop μ-loop
 same-length-2 c =

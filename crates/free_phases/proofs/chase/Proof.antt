@@ -28,16 +28,21 @@ returns c = c .before .before .before .loop .inv
 
 visit-requires : tie.Need-visit-requires Inv-loop μ-loop
 visit-requires c κs =
-    let l = c .before .before .before .before .before .before .before .before .before .before .before .before .before in
+    let t = c .before .before .before .before .before .before in
+    let l = t .before .before .before .before .before .before .before in
     raising-kept (l .before .before .before .pre) (l .loop .inv)
 
 loop-less : tie.Need-loop-less Inv-loop μ-loop
-loop-less c = omega (arith, c .before .before .before .before .before .before .before .before .before .before .before .before .before .before .before .loop-test .taken)
+loop-less c =
+    let v = c .before .before in
+    let t = v .before .before .before .before .before .before in
+    omega (arith, t .before .before .before .before .before .before .before .loop-test .taken)
 
 loop-again : tie.Need-loop-again Inv-loop μ-loop
 loop-again c =
     let v = c .before .before in
-    risen-then (v .before .before .before .before .before .before .before .before .before .before .before .before .before .before .loop .inv) (v .visit .ensures)
+    let t = v .before .before .before .before .before .before in
+    risen-then (t .before .before .before .before .before .before .before .before .loop .inv) (v .visit .ensures)
 
 same-length-2 : tie.Need-same-length-2 Inv-loop μ-loop
 same-length-2 c = c .before .loop .inv .size
