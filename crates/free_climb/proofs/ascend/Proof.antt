@@ -12,10 +12,12 @@ use Rattle.free_climb.proofs.ascend.Statement.{statement}
 use Rattle.free_climb.proofs.ascend.Tie as tie
 
 abbrev Inv-loop : tie.InvT-loop
-Inv-loop words count x₀ parents₀ kept lasts before trials start left₀ high₀ period₀ next₀ x parents left high period next = Climbing words period x next
+Inv-loop words count x₀ parents₀ kept lasts before trials start left₀ high₀ period₀ next₀ x parents left high period next =
+    Climbing words period x next
 
 abbrev μ-loop : tie.MeasureT-loop
-μ-loop words count x₀ parents₀ kept lasts before trials start left₀ high₀ period₀ next₀ x parents left high period next = common (pairs words) + 1 - period
+μ-loop words count x₀ parents₀ kept lasts before trials start left₀ high₀ period₀ next₀ x parents left high period next =
+    common (pairs words) + 1 - period
 
 loop-holds : tie.Need-loop-holds Inv-loop μ-loop
 loop-holds c =

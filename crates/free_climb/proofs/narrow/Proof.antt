@@ -28,7 +28,9 @@ loop-holds c =
     (b .pre, (le-refl _, omega (arith, c .smaller .ensures, top)))
 
 same-length : tie.Need-same-length Inv-loop μ-loop
-same-length c = c .before .before .before .loop .inv .0 .list .registersAre ∙ sym (c .before .before .before .before .before .before .before .before .pre .list .registersAre)
+same-length c =
+    let l = c .before .before .before in
+    l .loop .inv .0 .list .registersAre ∙ sym (l .before .before .before .before .before .pre .list .registersAre)
 
 returns : tie.Need-returns Inv-loop μ-loop
 returns c =

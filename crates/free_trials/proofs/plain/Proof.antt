@@ -52,7 +52,9 @@ loop-again c =
     under-turn (w .before .before .before .before .loop .inv) (round-risen (w .round .ensures))
 
 same-length-2 : tie.Need-same-length-2 Inv-loop μ-loop
-same-length-2 c = c .before .loop .inv .size ∙ sym (c .before .before .before .before .before .before .before .before .before .before .pre .list .registersAre)
+same-length-2 c =
+    let l = c .before in
+    l .loop .inv .size ∙ sym (l .before .before .before .before .before .before .before .before .before .pre .list .registersAre)
 
 returns-2 : tie.Need-returns-2 Inv-loop μ-loop
 returns-2 c = record { tried = λ h. absurd (omega (arith, c .before .before .before .before .before .before .before .before .before .before .pre .pos)) }

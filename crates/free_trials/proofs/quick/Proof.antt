@@ -33,7 +33,9 @@ returns-2 c =
     }
 
 returns-3 : tie.Need-returns-3
-returns-3 c = record { tried = λ h. absurd (omega (arith, c .before .before .before .before .before .before .before .before .before .before .before .pre .pos)) }
+returns-3 c =
+    let s = c .before .before .before .before .before .before in
+    record { tried = λ h. absurd (omega (arith, s .before .before .before .before .before .pre .pos)) }
 
 pub quick-spec : {M : Type 1} → statement M
 quick-spec =

@@ -46,7 +46,8 @@ carry-requires c κs =
 same-length-2 : tie.Need-same-length-2 Inv-loop μ-loop
 same-length-2 c =
     let q = c .before .before .before .before .before .before .before .before .before in
-    c .before .before .before .carry .ensures .0 .size ∙ q .round .ensures .round .size ∙ q .before .before .before .before .before .before .before .loop .inv .size
+    let l = q .before .before .before .before .before .before .before in
+    c .before .before .before .carry .ensures .0 .size ∙ q .round .ensures .round .size ∙ l .loop .inv .size
 
 returns-2 : tie.Need-returns-2 Inv-loop μ-loop
 returns-2 c =
@@ -55,12 +56,15 @@ returns-2 c =
     (risen-then (risen-then (q .before .before .before .before .before .before .before .loop .inv) (round-risen (q .round .ensures))) (d .0), d .1)
 
 loop-less : tie.Need-loop-less Inv-loop μ-loop
-loop-less c = omega (arith, c .before .before .before .before .before .before .before .before .before .before .before .before .before .before .before .loop-test .taken)
+loop-less c =
+    let q = c .before .before .before .before .before .before .before .before .before in
+    omega (arith, q .before .before .before .before .before .before .loop-test .taken)
 
 loop-again : tie.Need-loop-again Inv-loop μ-loop
 loop-again c =
     let q = c .before .before .before .before .before .before .before .before .before in
-    risen-then (risen-then (q .before .before .before .before .before .before .before .loop .inv) (round-risen (q .round .ensures))) (c .before .before .before .carry .ensures .0)
+    let l = q .before .before .before .before .before .before .before in
+    risen-then (risen-then (l .loop .inv) (round-risen (q .round .ensures))) (c .before .before .before .carry .ensures .0)
 
 same-length-3 : tie.Need-same-length-3 Inv-loop μ-loop
 same-length-3 c = c .before .loop .inv .size
