@@ -72,10 +72,13 @@ pub enum Ascent {
 // Up to so many pairs a round takes less time than what stands behind it; then a few plain trials come first.
 const FEW_PAIRS: usize = 512;
 
-// Trials of one kind before the next kind.
-const TRIALS: usize = 4;
+// So many of them, of so many rounds each at most.
+const PLAIN: usize = 2;
 
 const ROUNDS: usize = 7;
+
+// Trials before the range of periods is made smaller.
+const TRIALS: usize = 4;
 
 // A few trials of longer and longer periods by plain rounds.
 fn set_out(
@@ -88,7 +91,7 @@ fn set_out(
     requires { ⌜ Trial (now words) count start (now x) ⌝ }
     ensures { λ r. ⌜ Ascended (now (words .entry)) (now (x .exit)) r ⌝ }
 {
-    let mut left = TRIALS;
+    let mut left = PLAIN;
     let mut period = start;
     let mut next = free_trials::plain(words, count, x, parents, ROUNDS, period);
     while period < next {

@@ -49,10 +49,9 @@ returns-3 c =
     let r = s .before .before .before .before .before .before .before in
     let d = r .before .before .before .before .before .before .before in
     let z = d .before .before .before .before .before in
-    let p = z .before .before .before .before .pre in (
-      risen-then (risen-then (risen-then (zeros-risen (p .0) (p .1) (z .clear .ensures)) (d .resume .ensures .0)) (r .rounds .ensures .0)) (s .settle .ensures .0),
-      s .settle .ensures .1,
-    )
+    let p = z .before .before .before .before .pre in
+    let first = risen-then (zeros-risen (p .0) (p .1) (z .clear .ensures)) (d .resume .ensures .0) in
+    (risen-then (risen-then first (r .rounds .ensures .0)) (s .settle .ensures .0), s .settle .ensures .1)
 
 pub seek-spec : {M : Type 1} → statement M
 seek-spec =
