@@ -54,6 +54,12 @@ def near(n, m, reach, seed):
     return n, pairs
 
 
+def ones(n, m, seed):
+    """Delays of 0 and 1 only: every period is 1."""
+    rng = random.Random(seed)
+    return n, [(rng.randrange(n), rng.randrange(n), 0, rng.randint(0, 1)) for _ in range(m)]
+
+
 def chain(n, seed):
     """Register after register, with slow and fast logic in turn."""
     rng = random.Random(seed)
