@@ -1,6 +1,9 @@
 """The lists of the benchmark: a name, the count of registers, and pairs (launch, capture, least, greatest)."""
+import pathlib
 import random
 import struct
+
+FOUND = pathlib.Path(__file__).with_name('found')
 
 # circuit: registers, pairs, common period in picoseconds (ISCAS89; those within 512 registers and 2,048 pairs)
 CIRCUITS = {
@@ -49,6 +52,12 @@ def near(n, m, reach, seed):
         a = rng.randrange(n)
         pairs.append((a, min(n - 1, max(0, a + rng.randint(-reach, reach))), *delays(rng, 1_000_000, 40, 99)))
     return n, pairs
+
+
+def ones(n, m, seed):
+    """Delays of 0 and 1 only: every period is 1."""
+    rng = random.Random(seed)
+    return n, [(rng.randrange(n), rng.randrange(n), 0, rng.randint(0, 1)) for _ in range(m)]
 
 
 def chain(n, seed):
@@ -108,6 +117,55 @@ def mixed(net, seed):
     return n, pairs
 
 
+def ascending(net, seed):
+    """The same net with registers renumbered and pairs in ascending order."""
+    n, pairs = net
+    name = list(range(n))
+    random.Random(seed).shuffle(name)
+    return n, sorted((name[a], name[b], least, greatest) for a, b, least, greatest in pairs)
+
+
+def nested(n, m):
+    """A path from register 0 up and a return from each register r, with a cycle that asks for a period of 900,000 + r: the cycles
+    lie in one another, and a period that is tried shows the next one only. Further pairs go back to 0 and ask for nothing."""
+    last = n - 1
+    slow = 900_000 + last + 1002
+    path = [(r, r + 1, slow, slow) for r in range(last)]
+    pairs = [(1 + k % last, 0, 1000, 1000) for k in range(m - 2 * last)]
+    for r in range(last - 1, -1, -2):
+        pairs += path[r:r + 2]
+    for first in 1, 2:
+        for r in range(first, n, 2):
+            rest = (900_000 + r) * (r + 1) - r * slow
+            pairs.append((r, 0, rest, rest))
+    return n, pairs
+
+
+def zig(n, m):
+    """A chain of registers that are forced late one after the other, from 0 up; every other link stands at the front of the list,
+    the rest at the back, so that a sweep follows it one step. Between them a pair stands many times that forces nothing."""
+    links = [(r + 1, r, 0, 10) for r in range(n - 3, -1, -1)]
+    slow = 600_000
+    between = [(n - 1, n - 1, 0, slow)] + [(1, 0, 0, slow)] * (m - len(links) - 2)
+    return n, links[n % 2::2] + between + links[1 - n % 2::2] + [(n - 1, 0, 700_000, 1_000_000)]
+
+
+def hubwave(k, m):
+    """A wave that holds carry along a chain from register 0 up, a step in each sweep; each register it comes to raises a hub by 1
+    more than the one before, and the hub raises two others, between which all other pairs stand."""
+    start, hub, one, other, alone = range(k + 1, k + 6)
+    links = [(r + 1, r, 1, 1) for r in range(k)]
+    pairs = [(alone, alone, 500_000, 500_000)] + links[1::2]
+    for r in range(k + 1):
+        delay = 2 * (k - r) + 10
+        pairs.append((hub, r, delay, delay))
+    pairs += [(one, hub, 0, 0), (other, hub, 0, 0)]
+    last = links[0::2] + [(start, 0, 500_000 + 4 * k, 500_000 + 4 * k)]
+    for place in range(len(pairs), m - len(last)):
+        pairs.append((one, other, 400_000, 400_000) if place % 2 else (other, one, 400_000, 400_000))
+    return k + 6, pairs + last
+
+
 def encode(net):
     """The words of a list, as bytes."""
     n, pairs = net
@@ -116,6 +174,14 @@ def encode(net):
         words += [2 << 29 | a << 10 | b, 3 << 29 | least, 4 << 29 | greatest]
     words.append(7 << 29 | sum(words) % (1 << 29))
     return struct.pack(f'<{len(words)}I', *words)
+
+
+def decode(words):
+    """The net of a list's bytes."""
+    words = [word & 0x1fffffff for word, in struct.iter_unpack('<I', words)]
+    body = words[1:-1]
+    return words[0] >> 12, [(pair >> 10, pair & 0x3ff, least, greatest)
+                            for pair, least, greatest in zip(body[0::3], body[1::3], body[2::3])]
 
 
 def shapes():
@@ -132,6 +198,16 @@ def shapes():
     yield 'strands', strands(512, 4, 12)
     yield 'strands, mixed', mixed(strands(512, 4, 12), 8)
     yield 'grid, mixed', mixed(grid(22, 13), 8)
+
+
+def hard():
+    """Lists made to be slow: for the planner as it was, and, found by bench/climb.c, for the planner as it is."""
+    yield 'nested', nested(512, 2048)
+    yield 'nested, ascending', ascending(nested(512, 1022), 7)
+    yield 'zig', zig(512, 2048)
+    yield 'hubwave', hubwave(500, 2048)
+    for file in sorted(FOUND.glob('*.list')):
+        yield file.stem.replace('-', ' '), decode(file.read_bytes())
 
 
 def growth():

@@ -18,6 +18,7 @@ import milp
 
 ROOT = pathlib.Path(__file__).resolve().parent.parent
 WORK = ROOT / 'target' / 'bench'
+BEFORE = dict(line.split(': ') for line in pathlib.Path(__file__).with_name('before.txt').read_text().splitlines())
 CALL = {'ours': 'darnerflax_plan', 'plain': 'plain_plan', 'sat': 'sat_plan'}
 REPEATS = {'ours': 200, 'plain': 5, 'sat': 5}
 
@@ -32,6 +33,7 @@ def build():
     shell('g++', '-O3', '-Wall', '-Wextra', '-c', 'bench/plain.cpp', '-o', 'target/bench/plain.o')
     shell('gcc', '-O3', '-Wall', '-Wextra', '-Ic', 'bench/measure.c', 'target/bench/plain.o',
           'target/staticlib/libplanner_c.a', '-lcadical', '-lstdc++', '-lm', '-o', 'target/bench/measure')
+    shell('gcc', '-O2', '-Wall', '-Wextra', '-Ic', 'bench/stack.c', 'target/staticlib/libplanner_c.a', '-o', 'target/bench/stack')
 
 
 def instructions(who, file):
@@ -51,34 +53,43 @@ def measured(who, file):
 class Row:
     def __init__(self, name, net, limit=None):
         self.name, self.n, self.m = name, net[0], len(net[1])
-        file = WORK / 'list'
-        file.write_bytes(lists.encode(net))
-        self.seconds, self.count, answer = measured('ours', file)
+        self.file = WORK / f'{name}.list'
+        self.file.write_bytes(lists.encode(net))
+        self.seconds, self.count, answer = measured('ours', self.file)
         self.common, self.free, self.two, _ = map(int, answer[:4])
-        self.plain_seconds, self.plain_count, plain = measured('plain', file)
+        self.plain_seconds, self.plain_count, plain = measured('plain', self.file)
         assert plain == answer, name
-        if limit is None:
-            return
-        self.sat_seconds, self.sat_count, sat = measured('sat', file)
-        assert sat[2:4] == answer[2:4], name
-        model = WORK / 'model.lp'
-        model.write_text(milp.model(net))
-        self.cbc = milp.cbc(model, limit)
-        self.glpk = milp.glpk(model, limit)
-        print(self.line(), flush=True)
+        if limit is not None:
+            self.sat_seconds, self.sat_count, sat = measured('sat', self.file)
+            assert sat[2:4] == answer[2:4], name
+            model = WORK / 'model.lp'
+            model.write_text(milp.model(net))
+            self.cbc = milp.cbc(model, limit)
+            self.glpk = milp.glpk(model, limit)
+        print(self.line() if limit is not None else self.short_line(), flush=True)
 
     def fewer(self):
         return self.plain_count / self.count
+
+    def more(self):
+        """Instructions beside those of the planner before, 0 where these are not known."""
+        return self.count / 1e6 / float(BEFORE[self.name]) if self.name in BEFORE else 0
 
     def faster(self):
         """Against the faster of the two MILP solvers, finished or cut off."""
         return min(self.cbc.seconds, self.glpk.seconds) / self.seconds
 
+    def cells(self):
+        return (self.name, self.n, self.m, self.common, self.free, self.two, million(self.count),
+                BEFORE.get(self.name, ''), million(self.plain_count))
+
     def line(self):
-        return table_row(self.name, self.n, self.m, self.common, self.free, self.two, million(self.count),
-                         million(self.plain_count), million(self.sat_count), f'{self.fewer():.0f}', micro(self.seconds),
+        return table_row(*self.cells(), million(self.sat_count), f'{self.fewer():.0f}', micro(self.seconds),
                          micro(self.plain_seconds), micro(self.sat_seconds), self.cbc.told(self.two),
                          self.glpk.told(self.two), f'{self.faster():,.0f}')
+
+    def short_line(self):
+        return table_row(*self.cells(), f'{self.fewer():.0f}', micro(self.seconds), micro(self.plain_seconds))
 
 
 def million(count):
@@ -97,17 +108,34 @@ def table(head, rows):
     return '\n'.join([table_row(*head), '|' + '---|' * len(head), *rows]) + '\n'
 
 
-def means(rows):
-    fewer = [row.fewer() for row in rows]
-    return (min(fewer), sum(fewer) / len(fewer), math.exp(sum(map(math.log, fewer)) / len(fewer)),
-            min(row.faster() for row in rows))
+class Summary:
+    """Instructions of plain beside ours, over lists from 100 registers up."""
+
+    def __init__(self, rows):
+        rows = [row for row in rows if row.n >= 100]
+        fewer = [row.fewer() for row in rows]
+        self.least = min(fewer)
+        self.mean = sum(fewer) / len(fewer)
+        self.geometric = math.exp(sum(map(math.log, fewer)) / len(fewer))
+        self.total = sum(row.count for row in rows) / sum(row.plain_count for row in rows)
+        self.most = max(rows, key=lambda row: row.count)
+        self.worst = min(rows, key=Row.fewer)
+
+    def line(self, name):
+        return table_row(name, f'{self.least:.1f} ({self.worst.name})', f'{self.mean:.0f}', f'{self.geometric:.0f}',
+                         f'{1 / self.least:.4f}', f'{self.total:.4f}', f'{million(self.most.count)} ({self.most.name})')
 
 
-def growth(unit, nets):
-    rows = [(size, Row('', net)) for size, net in nets]
+def growth(unit, rows):
     head = (unit, 'ours, million instructions', 'plain', 'ours, µs', 'plain')
     return table(head, [table_row(size, million(r.count), million(r.plain_count), micro(r.seconds), micro(r.plain_seconds))
                         for size, r in rows])
+
+
+def stack(rows):
+    """The most stack that each job takes for one of the lists."""
+    lines = shell('target/bench/stack', *(str(row.file) for row in rows)).splitlines()
+    return table(('job', 'bytes of stack'), [table_row(job, f'{int(most):,}') for job, most in map(str.split, lines)])
 
 
 def machine():
@@ -124,21 +152,36 @@ def main():
     build()
     circuits = [Row(name, lists.circuit(name), limit) for name in lists.CIRCUITS]
     shapes = [Row(name, net, limit) for name, net in lists.shapes()]
-    by_pairs, by_registers = lists.growth()
-    head = ('list', 'registers', 'pairs', 'common', 'free', 'two', 'ours, million instructions', 'plain', 'SAT', 'plain / ours',
-            'ours, µs', 'plain', 'SAT', 'cbc, s', 'glpsol, s', 'MILP / ours')
-    least, mean, geometric, faster = means([row for row in circuits + shapes if row.n >= 100])
+    hard = [Row(name, net) for name, net in lists.hard()]
+    by_pairs, by_registers = ([(size, Row(f'{size} {unit}', net)) for size, net in nets]
+                              for unit, nets in zip(('pairs', 'registers'), lists.growth()))
+    grown = [row for _, row in by_pairs + by_registers]
+    every = circuits + shapes + hard + grown
+    more = [row for row in every if row.more() > 1]
+    most_more = max(every, key=Row.more)
+    ones = Row('delays of 0 and 1', lists.ones(512, 2048, 14))
+    faster = min(row.faster() for row in circuits + shapes if row.n >= 100)
+    usual, hardest = Summary(circuits + shapes), Summary(hard)
+    head = ('list', 'registers', 'pairs', 'common', 'free', 'two', 'ours, million instructions', 'before', 'plain')
+    long_head = (*head, 'SAT', 'plain / ours', 'ours, µs', 'plain', 'SAT', 'cbc, s', 'glpsol, s', 'MILP / ours')
+    summary = table(('lists', 'plain / ours, least', 'mean', 'geometric mean', 'ours / plain, most', 'of the totals',
+                     'ours, most million instructions'),
+                    [usual.line('circuits and shapes'), hardest.line('hard lists'), Summary(every).line('all, growth too')])
     text = pathlib.Path(__file__).with_name('text.md').read_text()
     for key, value in {
-        'MACHINE': machine(), 'LIMIT': limit, 'LEAST': f'{least:.1f}', 'MEAN': f'{mean:.0f}', 'GEOMETRIC': f'{geometric:.0f}',
-        'FASTER': f'{faster:,.0f}', 'CIRCUITS': table(head, [row.line() for row in circuits]),
-        'SHAPES': table(head, [row.line() for row in shapes]), 'BY_PAIRS': growth('pairs', by_pairs),
-        'BY_REGISTERS': growth('registers', by_registers),
+        'MACHINE': machine(), 'LIMIT': limit, 'LEAST': f'{usual.least:.1f}', 'MEAN': f'{usual.mean:.0f}',
+        'GEOMETRIC': f'{usual.geometric:.0f}', 'FASTER': f'{faster:,.0f}', 'SUMMARY': summary,
+        'HARD_MOST': million(hardest.most.count), 'HARD_MOST_LIST': hardest.most.name, 'HARD_MICRO': micro(hardest.most.seconds),
+        'HARD_LEAST': f'{hardest.least:.1f}', 'HARD_LEAST_LIST': hardest.worst.name,
+        'MORE': len(more), 'OF': sum(row.more() > 0 for row in every), 'MOST_MORE': f'{most_more.more():.1f}',
+        'MOST_MORE_LIST': most_more.name, 'ONES': million(ones.count), 'ONES_PLAIN': million(ones.plain_count),
+        'CIRCUITS': table(long_head, [row.line() for row in circuits]), 'SHAPES': table(long_head, [row.line() for row in shapes]),
+        'HARD': table((*head, 'plain / ours', 'ours, µs', 'plain'), [row.short_line() for row in hard]),
+        'BY_PAIRS': growth('pairs', by_pairs), 'BY_REGISTERS': growth('registers', by_registers), 'STACK': stack(every),
     }.items():
         text = text.replace('{' + key + '}', str(value))
     (ROOT / 'docs' / 'BENCHMARKS.md').write_text(text)
-    print(f'plain / ours from 100 registers up: at least {least:.1f}, mean {mean:.0f}, geometric mean {geometric:.0f}; '
-          f'MILP / ours: at least {faster:,.0f}')
+    print(summary + f'MILP / ours from 100 registers up: at least {faster:,.0f}')
 
 
 if __name__ == '__main__':
