@@ -18,6 +18,9 @@
  * and no other.
  *
  * n is the count of registers (1 to 512), m the count of pairs (0 to 2,048). Times are in picoseconds.
+ *
+ * No memory is allocated. The most stack that a call was seen to take, in bytes, rounded up (docs/BENCHMARKS.md):
+ * read 200, write 100, check 200, free 20,000, split 400, plan 22,000, report 96,000.
  */
 #ifndef DARNERFLAX_H
 #define DARNERFLAX_H
