@@ -12,7 +12,7 @@ use pair_ends::wide;
 use timing::larger;
 
 // The register that a rule starts from, or r where the list has no such rule.
-fn source(words: &[u32], count: usize, rule: u32, r: usize) -> usize
+fn source(words: &[u32], count: usize, rule: u16, r: usize) -> usize
     requires { ⌜ IsAccepted (now words) ⌝ }
     requires { ⌜ count ≡ pairCount (now words) ⌝ }
 {
@@ -28,7 +28,7 @@ fn source(words: &[u32], count: usize, rule: u32, r: usize) -> usize
 }
 
 // The register that the parent of r starts from; r itself if it has none.
-fn above(words: &[u32], count: usize, parents: &[u32; PARENTS], r: usize) -> usize
+pub fn above(words: &[u32], count: usize, parents: &[u16; PARENTS], r: usize) -> usize
     requires { ⌜ IsAccepted (now words) ⌝ }
     requires { ⌜ count ≡ pairCount (now words) ⌝ }
 {
@@ -46,7 +46,7 @@ pub struct Way {
 fn stack_up(
     words: &[u32],
     count: usize,
-    parents: &[u32; PARENTS],
+    parents: &[u16; PARENTS],
     r: usize,
     mark: u16,
     marks: &mut [u16; PARENTS],
@@ -77,7 +77,7 @@ fn closed(
     words: &[u32],
     count: usize,
     n: usize,
-    parents: &[u32; PARENTS],
+    parents: &[u16; PARENTS],
     way: Way,
     mark: u16,
     marks: &[u16; PARENTS],
@@ -103,7 +103,7 @@ fn unwind(
     words: &[u32],
     count: usize,
     x: &mut [u32],
-    parents: &mut [u32; PARENTS],
+    parents: &mut [u16; PARENTS],
     period: u32,
     stack: &[u16; PARENTS],
     height: usize,
@@ -125,7 +125,7 @@ fn branch(
     words: &[u32],
     count: usize,
     x: &mut [u32],
-    parents: &mut [u32; PARENTS],
+    parents: &mut [u16; PARENTS],
     period: u32,
     r: usize,
     marks: &mut [u16; PARENTS],
@@ -147,7 +147,7 @@ pub fn carry(
     words: &[u32],
     count: usize,
     x: &mut [u32],
-    parents: &mut [u32; PARENTS],
+    parents: &mut [u16; PARENTS],
     period: u32,
 ) -> u32
     requires { ⌜ Raising (now words) count period (now x) ⌝ }

@@ -18,11 +18,11 @@ pub const PARENTS: usize = timing::MAX_REGISTERS as usize;
 // The answer is the register raised last.
 fn raise(
     x: &mut [u32],
-    parents: &mut [u32; PARENTS],
+    parents: &mut [u16; PARENTS],
     r: usize,
     v: u32,
     allowance: u32,
-    rule: u32,
+    rule: u16,
     last: usize,
 ) -> usize
     requires { ⌜ Raisable (now x) ⌝ }
@@ -42,7 +42,7 @@ fn raise(
 // far as hold asks. The answer is the register raised last.
 fn relax(
     x: &mut [u32],
-    parents: &mut [u32; PARENTS],
+    parents: &mut [u16; PARENTS],
     p: Pair,
     period: u32,
     k: usize,
@@ -51,7 +51,7 @@ fn relax(
     requires { ⌜ Relaxable (now x) p period k ⌝ }
     ensures { λ u. ⌜ now (x .exit) ≡ relaxTo maxTiming period p (now (x .entry)) ⌝ }
 {
-    let rule = 2 * (k as u32);
+    let rule = 2 * (k as u16);
     let a = p.launch as usize;
     let b = p.capture as usize;
     let from = x[a];
@@ -66,7 +66,7 @@ pub fn round(
     words: &[u32],
     count: usize,
     x: &mut [u32],
-    parents: &mut [u32; PARENTS],
+    parents: &mut [u16; PARENTS],
     period: u32,
     down: bool,
 ) -> usize
@@ -90,9 +90,9 @@ pub fn apply(
     words: &[u32],
     count: usize,
     x: &mut [u32],
-    parents: &mut [u32; PARENTS],
+    parents: &mut [u16; PARENTS],
     period: u32,
-    rule: u32,
+    rule: u16,
 ) -> usize
     requires { ⌜ Raising (now words) count period (now x) ⌝ }
     ensures { λ u. ⌜ Risen maxTiming (constraints period (pairs (now (words .entry)))) (now (x .entry)) (now (x .exit)) ⌝ }

@@ -107,7 +107,7 @@ fn rounds(
 {
     let mut done = 0;
     while done < FEW {
-        free_phases::remember(x, old);
+        free_line::remember(x, old);
         let last = free_rounds::round(words, count, x, parents, period, done % 2 == 1);
         if last >= x.len() {
             return NOTHING;
@@ -166,7 +166,7 @@ pub fn seek(
     if period < longer {
         return longer;
     }
-    free_phases::settle(words, count, x, parents, period, lasts, before, &mut old)
+    free_line::settle(words, count, x, parents, period, lasts, before, &mut old)
 }
 
 // A trial that may start from parents kept from another period, a hint; 0 if it leaves the period undecided.

@@ -14,15 +14,17 @@ pub const ENDS: usize = 2 * MAX_PAIRS;
 pub const NONE: u16 = 0x1FFF;
 
 // End e + 1 is put at register r, after the ends that are there.
-fn join(r: usize, e: usize, lasts: &mut [u16; REGISTERS], before: &mut [u16; ENDS]) {
+fn join(r: usize, e: usize, lasts: &mut [u16; REGISTERS], before: &mut [u16]) {
     let at = r % REGISTERS;
     let i = e % ENDS;
-    before[i] = lasts[at];
-    lasts[at] = (i + 1) as u16;
+    if i < before.len() {
+        before[i] = lasts[at];
+        lasts[at] = (i + 1) as u16;
+    }
 }
 
 // Both ends of every pair: lasts[r] is the last end at register r, before[e - 1] the one before end e.
-pub fn link(words: &[u32], count: usize, lasts: &mut [u16; REGISTERS], before: &mut [u16; ENDS])
+pub fn link(words: &[u32], count: usize, lasts: &mut [u16; REGISTERS], before: &mut [u16])
     requires { ⌜ IsAccepted (now words) ⌝ }
     requires { ⌜ count ≡ pairCount (now words) ⌝ }
 {
@@ -47,10 +49,14 @@ pub fn last_at(lasts: &[u16; REGISTERS], r: usize) -> usize {
 }
 
 // The end before an end at its register, a smaller one or none.
-pub fn end_before(before: &[u16; ENDS], end: usize) -> usize
+pub fn end_before(before: &[u16], end: usize) -> usize
     requires { ⌜ 0 < end ⌝ }
     ensures { λ r. ⌜ r < end ⌝ }
 {
-    let e = wide(before[(end - 1) % ENDS]);
+    let i = end - 1;
+    if i >= before.len() {
+        return 0;
+    }
+    let e = wide(before[i]);
     if e < end { e } else { 0 }
 }

@@ -7,30 +7,30 @@ use Rattle.free_laws.specs.Constraint.{constraints}
 use Rattle.free_laws.specs.Raise.{Risen}
 use Rattle.free_rounds.proofs.RoundLaws.{risen-start, risen-then, raising-kept}
 use borrow.Author.Needs.{needs}
-use Rattle.free_phases.proofs.visit.Statement.{statement}
-use Rattle.free_phases.proofs.visit.Tie as tie
+use Rattle.free_line.proofs.visit.Statement.{statement}
+use Rattle.free_line.proofs.visit.Tie as tie
 
 abbrev Inv-loop : tie.InvT-loop
-Inv-loop words count x₀ parents₀ period lasts before heap₀ place₀ line₀ now₀ end₀ x parents heap place line now end =
+Inv-loop words count x₀ parents₀ period lasts before r waits₀ line₀ now₀ end₀ x parents waits line now end =
     Risen maxTiming (constraints period (pairs words)) x₀ x
 
 abbrev μ-loop : tie.MeasureT-loop
-μ-loop words count x₀ parents₀ period lasts before heap₀ place₀ line₀ now₀ end₀ x parents heap place line now end = end
+μ-loop words count x₀ parents₀ period lasts before r waits₀ line₀ now₀ end₀ x parents waits line now end = end
 
 loop-holds : tie.Need-loop-holds Inv-loop μ-loop
-loop-holds c = risen-start (c .before .before .before .pre)
+loop-holds c = risen-start (c .before .before .before .before .pre)
 
 apply-requires : tie.Need-apply-requires Inv-loop μ-loop
 apply-requires c κs =
     let l = c .before .before .before in
-    raising-kept (l .before .before .before .before .pre) (l .loop .inv)
+    raising-kept (l .before .before .before .before .before .pre) (l .loop .inv)
 
 loop-less : tie.Need-loop-less Inv-loop μ-loop
 loop-less c = c .end-before .ensures
 
 loop-again : tie.Need-loop-again Inv-loop μ-loop
 loop-again c =
-    let a = c .before .before .before .before .before .before .before .before .before in
+    let a = c .before .before .before .before .before .before in
     risen-then (a .before .before .before .before .loop .inv) (a .apply .ensures)
 
 same-length : tie.Need-same-length Inv-loop μ-loop
@@ -44,4 +44,4 @@ visit-spec =
     tie.close
     (tie.spec
     Inv-loop μ-loop (λ c κs. search needs) loop-holds (λ c. search needs) (λ c. search needs) apply-requires
-    (λ c κs. search needs) (λ c κs. search needs) (λ c κs. search needs) loop-less loop-again same-length returns)
+    (λ c κs. search needs) (λ c κs. search needs) loop-less loop-again same-length returns)

@@ -4,8 +4,8 @@ use Prim.Native.Nat.{_-_, _≤_}
 use native.Mathlib.Omega.{arith}
 use lib.ListN.{length}
 use borrow.Author.Needs.{needs}
-use Rattle.free_phases.proofs.remember.Statement.{statement}
-use Rattle.free_phases.proofs.remember.Tie as tie
+use Rattle.free_line.proofs.remember.Statement.{statement}
+use Rattle.free_line.proofs.remember.Tie as tie
 
 abbrev Inv-loop : tie.InvT-loop
 Inv-loop x old₀ i₀ old i = i ≤ length x

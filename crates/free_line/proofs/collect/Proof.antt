@@ -4,14 +4,14 @@ use Prim.Native.Nat.{_-_, _≤_}
 use native.Mathlib.Omega.{arith}
 use lib.ListN.{length}
 use borrow.Author.Needs.{needs}
-use Rattle.free_phases.proofs.collect.Statement.{statement}
-use Rattle.free_phases.proofs.collect.Tie as tie
+use Rattle.free_line.proofs.collect.Statement.{statement}
+use Rattle.free_line.proofs.collect.Tie as tie
 
 abbrev Inv-loop : tie.InvT-loop
-Inv-loop x old heap₀ place₀ line₀ now₀ r₀ heap place line now r = r ≤ length x
+Inv-loop x old waits₀ line₀ now₀ r₀ waits line now r = r ≤ length x
 
 abbrev μ-loop : tie.MeasureT-loop
-μ-loop x old heap₀ place₀ line₀ now₀ r₀ heap place line now r = length x - r
+μ-loop x old waits₀ line₀ now₀ r₀ waits line now r = length x - r
 
 loop-holds : tie.Need-loop-holds Inv-loop μ-loop
 loop-holds c = omega arith
@@ -26,4 +26,4 @@ pub collect-spec : {M : Type 1} → statement M
 collect-spec =
     tie.close
     (tie.spec
-    Inv-loop μ-loop loop-holds (λ c κs. search needs) (λ c. search needs) loop-less loop-again (λ c. search needs))
+    Inv-loop μ-loop loop-holds (λ c κs. search needs) (λ c κs. search needs) (λ c. search needs) loop-less loop-again (λ c. search needs))

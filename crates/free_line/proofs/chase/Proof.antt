@@ -7,18 +7,18 @@ use Rattle.free_laws.specs.Constraint.{constraints}
 use Rattle.free_laws.specs.Raise.{Risen}
 use Rattle.free_rounds.proofs.RoundLaws.{risen-start, risen-then, raising-kept}
 use borrow.Author.Needs.{needs}
-use Rattle.free_phases.proofs.chase.Statement.{statement}
-use Rattle.free_phases.proofs.chase.Tie as tie
+use Rattle.free_line.proofs.chase.Statement.{statement}
+use Rattle.free_line.proofs.chase.Tie as tie
 
 abbrev Inv-loop : tie.InvT-loop
-Inv-loop words count x₀ parents₀ period lasts before heap₀ place₀ line₀ now₀ left₀ x parents heap place line now left =
+Inv-loop words count x₀ parents₀ period lasts before waits₀ line₀ now₀ left₀ x parents waits line now left =
     Risen maxTiming (constraints period (pairs words)) x₀ x
 
 abbrev μ-loop : tie.MeasureT-loop
-μ-loop words count x₀ parents₀ period lasts before heap₀ place₀ line₀ now₀ left₀ x parents heap place line now left = left
+μ-loop words count x₀ parents₀ period lasts before waits₀ line₀ now₀ left₀ x parents waits line now left = left
 
 loop-holds : tie.Need-loop-holds Inv-loop μ-loop
-loop-holds c = risen-start (c .before .before .pre)
+loop-holds c = risen-start (c .before .before .before .pre)
 
 same-length : tie.Need-same-length Inv-loop μ-loop
 same-length c = c .before .before .before .loop .inv .size
@@ -28,21 +28,16 @@ returns c = c .before .before .before .loop .inv
 
 visit-requires : tie.Need-visit-requires Inv-loop μ-loop
 visit-requires c κs =
-    let t = c .before .before .before .before .before .before in
-    let l = t .before .before .before .before .before .before .before in
-    raising-kept (l .before .before .before .pre) (l .loop .inv)
+    let l = c .before .before .before .before .before .before .before .before .before .before .before in
+    raising-kept (l .before .before .before .before .pre) (l .loop .inv)
 
 loop-less : tie.Need-loop-less Inv-loop μ-loop
-loop-less c =
-    let v = c .before .before in
-    let t = v .before .before .before .before .before .before in
-    omega (arith, t .before .before .before .before .before .before .before .loop-test .taken)
+loop-less c = omega (arith, c .before .before .before .before .before .before .before .before .before .before .before .before .before .loop-test .taken)
 
 loop-again : tie.Need-loop-again Inv-loop μ-loop
 loop-again c =
     let v = c .before .before in
-    let t = v .before .before .before .before .before .before in
-    risen-then (t .before .before .before .before .before .before .before .before .loop .inv) (v .visit .ensures)
+    risen-then (v .before .before .before .before .before .before .before .before .before .before .before .before .loop .inv) (v .visit .ensures)
 
 same-length-2 : tie.Need-same-length-2 Inv-loop μ-loop
 same-length-2 c = c .before .loop .inv .size
@@ -55,4 +50,4 @@ chase-spec =
     tie.close
     (tie.spec
     Inv-loop μ-loop loop-holds (λ c. search needs) (λ c κs. search needs) same-length returns (λ c κs. search needs)
-    visit-requires loop-less loop-again same-length-2 returns-2)
+    (λ c κs. search needs) visit-requires loop-less loop-again same-length-2 returns-2)
