@@ -14,6 +14,9 @@ use timing::smaller;
 // Places for the parent of each register: the rule that raised it last, 2k for setup of pair k and 2k + 1 for its hold.
 pub const PARENTS: usize = timing::MAX_REGISTERS as usize;
 
+// The parent of a register that no rule has raised.
+pub const NO_RULE: u16 = 0xFFFF;
+
 // Register r raised until it is at least v with the allowance added, but not past the limit of a timing.
 // The answer is the register raised last.
 fn raise(

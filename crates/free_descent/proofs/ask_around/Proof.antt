@@ -1,0 +1,21 @@
+-- `ask_around`: safe, and it ends.
+-- Invariant: left ≤ length x. What falls: the registers left.
+use Prim.Native.Nat.{_≤_}
+use native.Mathlib.Omega.{arith}
+use lib.ListN.{length}
+use borrow.Author.Needs.{needs}
+use Rattle.free_descent.proofs.ask_around.Statement.{statement}
+use Rattle.free_descent.proofs.ask_around.Tie as tie
+
+abbrev Inv-loop : tie.InvT-loop
+Inv-loop words count x forest key₀ heap₀ place₀ lasts before first last now₀ r₀ left₀ key heap place now r left = left ≤ length x
+
+abbrev μ-loop : tie.MeasureT-loop
+μ-loop words count x forest key₀ heap₀ place₀ lasts before first last now₀ r₀ left₀ key heap place now r left = left
+
+pub ask-around-spec : {M : Type 1} → statement M
+ask-around-spec =
+    tie.close
+    (tie.spec
+    Inv-loop μ-loop (λ c. omega arith) (λ c. search needs) (λ c κs. search needs) (λ c. search needs)
+    (λ c κs. search needs) (λ c. omega arith) (λ c. omega arith) (λ c. search needs))
