@@ -6,16 +6,16 @@ use native.Mathlib.Nat.{sub-zero}
 use native.Mathlib.Omega.{arith}
 use lib.ListN.{length}
 use Rattle.timing.specs.declared.Pair.{Pair}
-use Rattle.timing.specs.Limits.{maxPeriod}
-use Rattle.list_format.specs.Lists.{registers, pairCount, pairAt, pairsFrom, pairs, IsPair, IsAccepted, AcceptedList}
-use Rattle.list_format.proofs.ListLaws.{pairs-in-range, pairs-within}
+use Rattle.list_format.specs.Lists.{registers, pairCount, pairAt, pairsFrom, pairs, IsPair, AcceptedList}
+use Rattle.list_format.proofs.ListLaws.{pairs-in-range}
 use Rattle.free_laws.specs.Free.{common}
-use Rattle.free_laws.proofs.FreeLaws.{common-pos, common-limit}
+use Rattle.free_laws.proofs.FreeLaws.{common-pos}
 use Rattle.free_laws.specs.Constraint.{Bound}
 use Rattle.free_laws.proofs.Bound.{bound-max, bound-period, bound-schedule}
 use Rattle.free_rounds.proofs.RoundLaws.{rules-at}
 use Rattle.free_trials.specs.Trial.{Trial, Sought}
-use Rattle.free_climb.specs.declared.Ascent.the-variants.{Done, Undecided}
+use Rattle.free_climb.specs.declared.Ascent.{Ascent}
+use Rattle.free_climb.specs.declared.Ascent.the-variants.{Done, Onward, Undecided}
 use Rattle.free_climb.specs.Climbed.{Alone, Climbed, Ascended}
 
 -- ---- what pairs alone ask
@@ -66,10 +66,6 @@ module _ {ws : List ℕ} {most k : ℕ} (l : Largest ws most k) where
       let all = rw none at (l .same) in
       omega (arith, all, l .pos)
 
--- it is within the limit of a period
-pub common-within : (ws : List ℕ) {c : ℕ} → IsAccepted ws → c ≡ common (pairs ws) → c ≤ maxPeriod
-common-within ws a e = rw e (common-limit maxPeriod (omega arith) (pairs ws) (pairs-within ws a))
-
 -- ---- the climb
 
 -- Below every period that is tried there is no schedule. A trial tells that period with its least schedule, and then it is the
@@ -92,13 +88,6 @@ module _ {ws : List ℕ} {n count : ℕ} (r : AcceptedList ws n count) where
   pub trial-of : {u : ℕ} {x : List ℕ} → length x ≡ registers ws → 1 ≤ u → Bound (pairs ws) u → Trial ws count u x
   trial-of e pos b = record { list = record { accepted = r .accepted; registersAre = e; pairsAre = r .pairsAre }; pos = pos; bound = b }
 
-  left-undecided : {u : ℕ} {x : List ℕ} → 1 ≤ u → Bound (pairs ws) u → Ascended ws x (Undecided u)
-  left-undecided {u} pos b =
-      record {
-        settled = λ v e. let z : _≡_ {A = ℕ} 0 1 = cc in absurd (omega arith);
-        undecided = λ v e. let same : u ≡ v = cc in rw (← same) (pos, b);
-      }
-
   module _ {t next : ℕ} {x : List ℕ} (c : Climbing ws t x next) where
     pub climbing-tries : t < next → Trial ws count next x
     climbing-tries h = trial-of (c .size) (omega arith) (c .sought .tried (omega arith) .bound)
@@ -118,12 +107,49 @@ module _ {ws : List ℕ} {n count : ℕ} (r : AcceptedList ws n count) where
     ascended-settled g h =
         record {
           settled = λ u e. let same : t ≡ u = cc in rw (← same) (climbing-end g h);
+          onward = λ u e. let z : _≡_ {A = ℕ} 0 1 = cc in absurd (omega arith);
           undecided = λ u e. let z : _≡_ {A = ℕ} 0 1 = cc in absurd (omega arith);
         }
 
     pub ascended-undecided : Ascended ws x (Undecided t)
-    ascended-undecided = left-undecided (c .pos) (c .bound)
+    ascended-undecided =
+        record {
+          settled = λ v e. let z : _≡_ {A = ℕ} 0 1 = cc in absurd (omega arith);
+          onward = λ v e. let z : _≡_ {A = ℕ} 0 1 = cc in absurd (omega arith);
+          undecided = λ v e. let same : t ≡ v = cc in rw (← same) (c .pos, c .bound);
+        }
 
     -- a longer period was told, and is left to others
-    pub ascended-onward : t < next → Ascended ws x (Undecided next)
-    ascended-onward h = left-undecided (climbing-tries h .pos) (climbing-tries h .bound)
+    pub ascended-onward : t < next → Ascended ws x (Onward next)
+    ascended-onward h =
+        record {
+          settled = λ v e. let z : _≡_ {A = ℕ} 0 1 = cc in absurd (omega arith);
+          onward = λ v e. let same : next ≡ v = cc in rw (← same) (climbing-tries h .pos, climbing-tries h .bound);
+          undecided = λ v e. let z : _≡_ {A = ℕ} 0 1 = cc in absurd (omega arith);
+        }
+
+-- ---- from trials to others
+
+-- a longer period was shown, or none
+pub trial-longer : {ws : List ℕ} {count s b t : ℕ} {x : List ℕ} → Trial ws count s x → Bound (pairs ws) b → t ≡ max s b → Trial ws count t x
+trial-longer p h q = record { list = p .list; pos = omega (arith, p .pos, q); bound = rw q (bound-max (p .bound) h) }
+
+module _ {ws : List ℕ} {count s : ℕ} {x y : List ℕ} (p : Trial ws count s x) (e : length y ≡ length x) where
+  -- with other times
+  pub trial-kept : Trial ws count s y
+  trial-kept = trial-of (p .list) (e ∙ p .list .registersAre) (p .pos) (p .bound)
+
+  module _ {o : Ascent} (a : Ascended ws y o) where
+    pub trial-onward : {t : ℕ} → o ≡ Onward t → Trial ws count t y
+    trial-onward q =
+        let u = a .onward _ q in
+        trial-of (p .list) (e ∙ p .list .registersAre) (u .0) (u .1)
+
+    pub trial-undecided : {t : ℕ} → o ≡ Undecided t → Trial ws count t y
+    trial-undecided q =
+        let u = a .undecided _ q in
+        trial-of (p .list) (e ∙ p .list .registersAre) (u .0) (u .1)
+
+  -- a trial told the period itself
+  pub trial-settled : {told : ℕ} → Sought ws s y told → told ≡ s → Climbed ws y s
+  trial-settled h q = climbing-end (p .list) (climbing-after p e h) (omega (arith, q)) (omega (arith, q))

@@ -1,5 +1,5 @@
 // The common period, the free period and the free schedule of an accepted list; the free period by trials of longer and
-// longer periods.
+// longer periods, and from the common period down where they do not come to an end soon.
 // The contracts cite `specs/Climbed.antt` and the laws of `free_laws`.
 ghost use mathlib.Core.Path.{_≡_};
 ghost use Prim.Native.Nat.{_-_, _≤_, _<_, max};
@@ -7,15 +7,13 @@ ghost use lib.ListN.{length};
 ghost use Rattle.list_format.specs.Lists.{pairCount, pairs, IsAccepted, AcceptedList};
 ghost use Rattle.free_laws.specs.Free.{common as commonOf};
 ghost use Rattle.free_laws.specs.Constraint.{Bound};
-ghost use Rattle.free_trials.specs.Trial.{Trial};
+ghost use Rattle.free_trials.specs.Trial.{Trial, Sought};
 ghost use Rattle.free_climb.specs.Climbed.{Alone, Climbed, Ascended};
-use free_trials::NONE;
-use pair_ends::ENDS;
+use free_rounds::NO_RULE;
 use pair_ends::REGISTERS;
 use timing::Pair;
 use timing::larger;
 use timing::less;
-use timing::smaller;
 
 // The shortest period.
 const SHORTEST: u32 = 1;
@@ -63,160 +61,95 @@ pub fn common(words: &[u32], count: usize) -> u32
     most
 }
 
-// What trials come to: the free period, with the free schedule, or a period that they leave undecided.
+// What trials come to: the free period, with the free schedule, or a longer period than the last that they tried, or one that they
+// leave undecided.
 pub enum Ascent {
     Done(u32),
+    Onward(u32),
     Undecided(u32),
 }
 
-// Up to so many pairs a round takes less time than what stands behind it; then a few plain trials come first.
-const FEW_PAIRS: usize = 512;
+// How trials are made: by so many plain rounds, or by all means if that is 0; how many at most; and whether the first starts from
+// parents that are kept from another period.
+pub struct Manner {
+    pub rounds: usize,
+    pub trials: usize,
+    pub kept: bool,
+}
 
-// So many of them, of so many rounds each at most.
-const PLAIN: usize = 2;
+// No register has a parent, if any was kept.
+fn anew(parents: &mut [u16; REGISTERS], kept: bool) {
+    if kept {
+        free_trials::forget(parents);
+    }
+}
 
-const ROUNDS: usize = 7;
-
-// Trials before the range of periods is made smaller.
-const TRIALS: usize = 4;
-
-// A few trials of longer and longer periods by plain rounds.
-fn set_out(
+// One trial. Plain rounds start with no parents.
+fn attempt(
     words: &[u32],
     count: usize,
     x: &mut [u32],
-    parents: &mut [u32; REGISTERS],
-    start: u32,
-) -> Ascent
-    requires { ⌜ Trial (now words) count start (now x) ⌝ }
-    ensures { λ r. ⌜ Ascended (now (words .entry)) (now (x .exit)) r ⌝ }
-{
-    let mut left = PLAIN;
-    let mut period = start;
-    let mut next = free_trials::plain(words, count, x, parents, ROUNDS, period);
-    while period < next {
-        if left == 0 {
-            return Ascent::Undecided(next);
-        }
-        left -= 1;
-        period = next;
-        next = free_trials::plain(words, count, x, parents, ROUNDS, period);
-    }
-    if next < period {
-        return Ascent::Undecided(period);
-    }
-    Ascent::Done(period)
-}
-
-// A period between two, in the middle or near the first.
-fn between(low: u32, high: u32, far: bool) -> u32
-    requires { ⌜ low < high ⌝ }
-    ensures { λ r. ⌜ (low ≤ r) × (r < high) ⌝ }
-{
-    if far {
-        return low + (high - low) / 2;
-    }
-    low + (high - low) / 64
-}
-
-// Two periods: none below the first has a schedule, and at the second raises were seen to come to an end.
-pub struct Range {
-    pub low: u32,
-    pub high: u32,
-}
-
-// The range made smaller, from the common period down: where raises come to an end, a shorter period is tried next, near the
-// first; where a cycle shows a longer one, one in the middle. A trial of the first itself is left to others.
-fn narrow(
-    words: &[u32],
-    count: usize,
-    x: &mut [u32],
-    parents: &mut [u32; REGISTERS],
+    parents: &mut [u16; REGISTERS],
     lasts: &[u16; REGISTERS],
-    before: &[u16; ENDS],
-    range: Range,
-) -> Range
-    requires { ⌜ Trial (now words) count (range .low) (now x) ⌝ }
-    ensures { λ r. ⌜ Trial (now (words .entry)) count (r .low) (now (x .exit)) × (range .low ≤ r .low) ⌝ }
+    before: &[u16],
+    rounds: usize,
+    kept: bool,
+    period: u32,
+) -> u32
+    requires { ⌜ Trial (now words) count period (now x) ⌝ }
+    ensures { λ r. ⌜ Sought (now (words .entry)) period (now (x .exit)) r ⌝ }
 {
-    let mut low = range.low;
-    let mut high = smaller(range.high, common(words, count));
-    let mut far = false;
-    while low < high {
-        let at = between(low, high, far);
-        if at == low {
-            return Range {
-                low: low,
-                high: high,
-            };
-        }
-        let longer = free_trials::seek(words, count, x, parents, true, at, lasts, before);
-        far = at < longer;
-        if far {
-            low = longer;
-        } else {
-            high = at;
-        }
+    if rounds == 0 {
+        return free_trials::quick(words, count, x, parents, kept, lasts, before, period);
     }
-    Range {
-        low: low,
-        high: high,
-    }
+    anew(parents, kept);
+    free_trials::plain(words, count, x, parents, rounds, period)
 }
 
-fn fewer(left: usize) -> usize {
-    if left > 0 { left - 1 } else { 0 }
-}
-
-// The range with the next period to try: as it is, or made smaller where no trials are left.
-fn go_on(
-    words: &[u32],
-    count: usize,
-    x: &mut [u32],
-    parents: &mut [u32; REGISTERS],
-    lasts: &[u16; REGISTERS],
-    before: &[u16; ENDS],
-    left: usize,
-    range: Range,
-) -> Range
-    requires { ⌜ Trial (now words) count (range .low) (now x) ⌝ }
-    ensures { λ r. ⌜ Trial (now (words .entry)) count (r .low) (now (x .exit)) × (range .low ≤ r .low) ⌝ }
-{
-    if left > 0 {
-        return range;
-    }
-    narrow(words, count, x, parents, lasts, before, range)
-}
-
-// Trials of longer and longer periods, each with the parents that the one before it left; after so many of them by `narrow`.
+// Trials of longer and longer periods, as each shows the next.
 fn ascend(
     words: &[u32],
     count: usize,
     x: &mut [u32],
-    parents: &mut [u32; REGISTERS],
-    kept: bool,
+    parents: &mut [u16; REGISTERS],
     lasts: &[u16; REGISTERS],
-    before: &[u16; ENDS],
-    trials: usize,
+    before: &[u16],
+    manner: Manner,
     start: u32,
 ) -> Ascent
     requires { ⌜ Trial (now words) count start (now x) ⌝ }
     ensures { λ r. ⌜ Ascended (now (words .entry)) (now (x .exit)) r ⌝ }
 {
-    let mut left = trials;
-    let mut high = timing::MAX_PERIOD;
+    let mut left = manner.trials;
     let mut period = start;
-    let mut next = free_trials::quick(words, count, x, parents, kept, lasts, before, period);
+    let mut next = attempt(
+        words,
+        count,
+        x,
+        parents,
+        lasts,
+        before,
+        manner.rounds,
+        manner.kept,
+        period,
+    );
     while period < next {
-        let range = Range {
-            low: next,
-            high: high,
-        };
-        let found = go_on(words, count, x, parents, lasts, before, left, range);
-        left = fewer(left);
-        high = found.high;
-        period = found.low;
-        next = free_trials::quick(words, count, x, parents, true, lasts, before, period);
+        if left <= 1 {
+            return Ascent::Onward(next);
+        }
+        left -= 1;
+        period = next;
+        next = attempt(
+            words,
+            count,
+            x,
+            parents,
+            lasts,
+            before,
+            manner.rounds,
+            true,
+            period,
+        );
     }
     if next < period {
         return Ascent::Undecided(period);
@@ -224,7 +157,7 @@ fn ascend(
     Ascent::Done(period)
 }
 
-// The same by rounds over all pairs, which leave nothing undecided.
+// Trials by rounds over all pairs, which leave nothing undecided.
 fn finish(words: &[u32], count: usize, x: &mut [u32], start: u32) -> u32
     requires { ⌜ Trial (now words) count start (now x) ⌝ }
     ensures { λ r. ⌜ Climbed (now (words .entry)) (now (x .exit)) r ⌝ }
@@ -238,26 +171,130 @@ fn finish(words: &[u32], count: usize, x: &mut [u32], start: u32) -> u32
     period
 }
 
-// The climb from a period, with parents that may be kept from another.
-fn climb_on(
+// So many trials after a descent that was not enough, then rounds over all pairs.
+const RETRIES: usize = 64;
+
+// From a period that a descent came to: trials with the parents that it left.
+fn close(
     words: &[u32],
     count: usize,
     x: &mut [u32],
-    parents: &mut [u32; REGISTERS],
-    kept: bool,
+    parents: &mut [u16; REGISTERS],
     lasts: &[u16; REGISTERS],
-    before: &[u16; ENDS],
-    trials: usize,
+    before: &[u16],
     start: u32,
 ) -> u32
     requires { ⌜ Trial (now words) count start (now x) ⌝ }
     ensures { λ r. ⌜ Climbed (now (words .entry)) (now (x .exit)) r ⌝ }
 {
-    match ascend(words, count, x, parents, kept, lasts, before, trials, start) {
+    let manner = Manner {
+        rounds: 0,
+        trials: RETRIES,
+        kept: true,
+    };
+    match ascend(words, count, x, parents, lasts, before, manner, start) {
         Ascent::Done(period) => period,
+        Ascent::Onward(period) => finish(words, count, x, period),
         Ascent::Undecided(period) => finish(words, count, x, period),
     }
 }
+
+// The descent from the common period to the first period, and a trial of where it ends by the parents that it leaves.
+fn come_down(
+    words: &[u32],
+    count: usize,
+    x: &mut [u32],
+    parents: &mut [u16; REGISTERS],
+    lasts: &[u16; REGISTERS],
+    before: &[u16],
+    low: u32,
+) -> u32
+    requires { ⌜ Trial (now words) count low (now x) ⌝ }
+    ensures { λ r. ⌜ Climbed (now (words .entry)) (now (x .exit)) r ⌝ }
+{
+    let shown = free_descent::descend(words, count, x, parents, lasts, before, low);
+    let period = larger(low, shown);
+    let told = free_trials::follow(words, count, x, parents, period);
+    if told == period {
+        return period;
+    }
+    close(words, count, x, parents, lasts, before, period)
+}
+
+// Trials from a period on, and a descent where they do not come to an end.
+fn climb_on(
+    words: &[u32],
+    count: usize,
+    x: &mut [u32],
+    parents: &mut [u16; REGISTERS],
+    lasts: &[u16; REGISTERS],
+    before: &[u16],
+    manner: Manner,
+    start: u32,
+) -> u32
+    requires { ⌜ Trial (now words) count start (now x) ⌝ }
+    ensures { λ r. ⌜ Climbed (now (words .entry)) (now (x .exit)) r ⌝ }
+{
+    match ascend(words, count, x, parents, lasts, before, manner, start) {
+        Ascent::Done(period) => period,
+        Ascent::Onward(period) => come_down(words, count, x, parents, lasts, before, period),
+        Ascent::Undecided(period) => come_down(words, count, x, parents, lasts, before, period),
+    }
+}
+
+// Up to so many pairs a round takes less time than what stands behind it; then plain trials of so many rounds come first.
+const FEW_PAIRS: usize = 512;
+
+const ROUNDS: usize = 5;
+
+// Two plain trials, but more with few registers, where a descent is dear beside them.
+const FEW_REGISTERS: usize = 64;
+
+fn plain_trials(n: usize) -> usize {
+    if n < FEW_REGISTERS { 6 } else { 2 }
+}
+
+// A list of few pairs: plain trials; where one is left undecided, one by all means.
+fn climb_few(
+    words: &[u32],
+    count: usize,
+    x: &mut [u32],
+    parents: &mut [u16; REGISTERS],
+    lasts: &[u16; REGISTERS],
+    before: &[u16],
+    start: u32,
+) -> u32
+    requires { ⌜ Trial (now words) count start (now x) ⌝ }
+    ensures { λ r. ⌜ Climbed (now (words .entry)) (now (x .exit)) r ⌝ }
+{
+    let plain = Manner {
+        rounds: ROUNDS,
+        trials: plain_trials(x.len()),
+        kept: false,
+    };
+    let once = Manner {
+        rounds: 0,
+        trials: 1,
+        kept: true,
+    };
+    match ascend(words, count, x, parents, lasts, before, plain, start) {
+        Ascent::Done(period) => period,
+        Ascent::Onward(period) => come_down(words, count, x, parents, lasts, before, period),
+        Ascent::Undecided(period) => climb_on(
+            words,
+            count,
+            x,
+            parents,
+            lasts,
+            before,
+            once,
+            period,
+        ),
+    }
+}
+
+// So many trials of a list of many pairs before the descent.
+const TRIALS: usize = 4;
 
 // The free period; the free schedule fills x.
 pub fn climb(
@@ -265,38 +302,20 @@ pub fn climb(
     count: usize,
     x: &mut [u32],
     lasts: &[u16; REGISTERS],
-    before: &[u16; ENDS],
+    before: &[u16],
 ) -> u32
     requires { ⌜ AcceptedList (now words) (length (now x)) count ⌝ }
     ensures { λ r. ⌜ Climbed (now (words .entry)) (now (x .exit)) r ⌝ }
 {
-    let mut parents = [NONE; REGISTERS];
+    let mut parents = [NO_RULE; REGISTERS];
     let start = lowest(words, count);
-    if count > FEW_PAIRS {
-        return climb_on(
-            words,
-            count,
-            x,
-            &mut parents,
-            false,
-            lasts,
-            before,
-            TRIALS,
-            start,
-        );
+    if count <= FEW_PAIRS {
+        return climb_few(words, count, x, &mut parents, lasts, before, start);
     }
-    match set_out(words, count, x, &mut parents, start) {
-        Ascent::Done(period) => period,
-        Ascent::Undecided(period) => climb_on(
-            words,
-            count,
-            x,
-            &mut parents,
-            true,
-            lasts,
-            before,
-            1,
-            period,
-        ),
-    }
+    let manner = Manner {
+        rounds: 0,
+        trials: TRIALS,
+        kept: false,
+    };
+    climb_on(words, count, x, &mut parents, lasts, before, manner, start)
 }

@@ -10,11 +10,8 @@ ghost use Rattle.free_laws.specs.Constraint.{constraints, Bound};
 ghost use Rattle.free_laws.specs.Raise.{Risen};
 ghost use Rattle.free_rounds.specs.Raise.{Raising};
 ghost use Rattle.free_trials.specs.Trial.{Trial, Judged, Sought, Tried};
+use free_rounds::NO_RULE;
 use free_rounds::PARENTS;
-use pair_ends::ENDS;
-
-// The parent of a register that no rule has raised.
-pub const NONE: u32 = 0xFFFF_FFFF;
 
 // All registers at 0.
 fn clear(x: &mut [u32])
@@ -30,7 +27,7 @@ fn judge(
     words: &[u32],
     count: usize,
     x: &[u32],
-    parents: &[u32; PARENTS],
+    parents: &[u16; PARENTS],
     period: u32,
     last: usize,
 ) -> u32
@@ -51,10 +48,10 @@ fn judge(
 }
 
 // No register has a parent.
-fn forget(parents: &mut [u32; PARENTS]) {
+pub fn forget(parents: &mut [u16; PARENTS]) {
     let mut i = 0;
     while i < PARENTS {
-        parents[i] = NONE;
+        parents[i] = NO_RULE;
         i += 1;
     }
 }
@@ -64,7 +61,7 @@ pub fn plain(
     words: &[u32],
     count: usize,
     x: &mut [u32],
-    parents: &mut [u32; PARENTS],
+    parents: &mut [u16; PARENTS],
     most: usize,
     period: u32,
 ) -> u32
@@ -72,7 +69,6 @@ pub fn plain(
     ensures { λ r. ⌜ Sought (now (words .entry)) period (now (x .exit)) r ⌝ }
 {
     clear(x);
-    forget(parents);
     let mut done = 0;
     while done < most {
         let last = free_rounds::round(words, count, x, parents, period, done % 2 == 1);
@@ -97,7 +93,7 @@ fn rounds(
     words: &[u32],
     count: usize,
     x: &mut [u32],
-    parents: &mut [u32; PARENTS],
+    parents: &mut [u16; PARENTS],
     period: u32,
     old: &mut [u32; PARENTS],
 ) -> u32
@@ -126,7 +122,7 @@ fn resume(
     words: &[u32],
     count: usize,
     x: &mut [u32],
-    parents: &mut [u32; PARENTS],
+    parents: &mut [u16; PARENTS],
     period: u32,
     kept: bool,
 ) -> u32
@@ -146,11 +142,11 @@ pub fn seek(
     words: &[u32],
     count: usize,
     x: &mut [u32],
-    parents: &mut [u32; PARENTS],
+    parents: &mut [u16; PARENTS],
     kept: bool,
     period: u32,
     lasts: &[u16; PARENTS],
-    before: &[u16; ENDS],
+    before: &[u16],
 ) -> u32
     requires { ⌜ AcceptedList (now words) (length (now x)) count × (period ≤ maxPeriod) ⌝ }
     ensures risen { λ u. ⌜ Risen maxTiming (constraints period (pairs (now (words .entry)))) (zeros (length (now (x .entry)))) (now (x .exit)) ⌝ }
@@ -169,21 +165,11 @@ pub fn seek(
     free_line::settle(words, count, x, parents, period, lasts, before, &mut old)
 }
 
-// A trial that may start from parents kept from another period, a hint; 0 if it leaves the period undecided.
-pub fn quick(
-    words: &[u32],
-    count: usize,
-    x: &mut [u32],
-    parents: &mut [u32; PARENTS],
-    kept: bool,
-    lasts: &[u16; PARENTS],
-    before: &[u16; ENDS],
-    period: u32,
-) -> u32
-    requires { ⌜ Trial (now words) count period (now x) ⌝ }
-    ensures { λ r. ⌜ Sought (now (words .entry)) period (now (x .exit)) r ⌝ }
+// What raises tell by which a longer period was shown, or none: the period if the schedule is admissible, the longer one, else 0.
+fn told(words: &[u32], count: usize, x: &[u32], period: u32, longer: u32) -> u32
+    requires { ⌜ Trial (now words) count period (now x) × Bound (pairs (now words)) longer ⌝ }
+    ensures { λ r. ⌜ Judged (now (words .entry)) period (now (x .entry)) r ⌝ }
 {
-    let longer = seek(words, count, x, parents, kept, period, lasts, before);
     if period < longer {
         return longer;
     }
@@ -193,12 +179,46 @@ pub fn quick(
     0
 }
 
+// A trial that may start from parents kept from another period, a hint; 0 if it leaves the period undecided.
+pub fn quick(
+    words: &[u32],
+    count: usize,
+    x: &mut [u32],
+    parents: &mut [u16; PARENTS],
+    kept: bool,
+    lasts: &[u16; PARENTS],
+    before: &[u16],
+    period: u32,
+) -> u32
+    requires { ⌜ Trial (now words) count period (now x) ⌝ }
+    ensures { λ r. ⌜ Sought (now (words .entry)) period (now (x .exit)) r ⌝ }
+{
+    let longer = seek(words, count, x, parents, kept, period, lasts, before);
+    told(words, count, x, period, longer)
+}
+
+// A trial by raises along the parents alone; 0 if it leaves the period undecided.
+pub fn follow(
+    words: &[u32],
+    count: usize,
+    x: &mut [u32],
+    parents: &mut [u16; PARENTS],
+    period: u32,
+) -> u32
+    requires { ⌜ Trial (now words) count period (now x) ⌝ }
+    ensures { λ r. ⌜ Sought (now (words .entry)) period (now (x .exit)) r ⌝ }
+{
+    clear(x);
+    let longer = free_carry::carry(words, count, x, parents, period);
+    told(words, count, x, period, longer)
+}
+
 // A trial by rounds over all pairs, as many as registers if need be: the period, with the least schedule in x, or a longer one.
 pub fn steady(words: &[u32], count: usize, x: &mut [u32], period: u32) -> u32
     requires { ⌜ Trial (now words) count period (now x) ⌝ }
     ensures { λ r. ⌜ Tried (now (words .entry)) period (now (x .exit)) r ⌝ }
 {
-    let mut parents = [NONE; PARENTS];
+    let mut parents = [NO_RULE; PARENTS];
     clear(x);
     let mut done = 0;
     while done < x.len() {

@@ -1,16 +1,18 @@
--- `climb_on`: quick trials, and from a period that they leave undecided the climb of `finish`.
-use mathlib.Core.Path.{_∙_}
-use Rattle.free_climb.proofs.ClimbLaws.{trial-of}
+-- `climb_on`: trials, and from a period that they come to and leave the descent.
+use Rattle.free_climb.proofs.ClimbLaws.{trial-onward, trial-undecided}
 use borrow.Author.Needs.{needs}
 use Rattle.free_climb.proofs.climb_on.Statement.{statement}
 use Rattle.free_climb.proofs.climb_on.Tie as tie
 
-finish-requires : tie.Need-finish-requires
-finish-requires c κs =
-    let r = c .before .before .before .before .before .before .before .before .before .before .before .pre .list in
-    let a = c .before .before .before .before .before .before .ascend in
-    let u = a .ensures .undecided _ (c .before .before .period2 .given .1) in
-    trial-of r (a .kept .1 .1 .0 ∙ r .registersAre) (u .0) (u .1)
+come-down-requires : tie.Need-come-down-requires
+come-down-requires c κs =
+    let a = c .before .before .before .before .before .before .before in
+    trial-onward (a .before .before .before .before .before .before .pre) (a .ascend .kept .1 .1 .0) (a .ascend .ensures) (c .before .before .before .period2 .given .1)
+
+come-down-requires-2 : tie.Need-come-down-requires-2
+come-down-requires-2 c κs =
+    let a = c .before .before .before .before .before .before .before in
+    trial-undecided (a .before .before .before .before .before .before .pre) (a .ascend .kept .1 .1 .0) (a .ascend .ensures) (c .before .before .before .period3 .given .1)
 
 returns : tie.Need-returns
 returns c = c .before .before .before .before .before .ascend .ensures .settled _ (c .before .period .given .1)
@@ -19,5 +21,6 @@ pub climb-on-spec : {M : Type 1} → statement M
 climb-on-spec =
     tie.close
     (tie.spec
-    (λ c κs. search needs) (λ c. search needs) (λ c. search needs) finish-requires (λ c. search needs) returns
-    (λ c. search needs) (λ c. search needs))
+    (λ c κs. search needs) (λ c. search needs) (λ c. search needs) come-down-requires (λ c. search needs)
+    come-down-requires-2 (λ c. search needs) returns (λ c. search needs) (λ c. search needs) (λ c. search needs)
+    (λ c. search needs))

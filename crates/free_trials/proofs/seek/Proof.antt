@@ -8,21 +8,21 @@ use Rattle.free_trials.proofs.seek.Tie as tie
 resume-requires : tie.Need-resume-requires
 resume-requires c κs =
     let z = c .before .before .before .before in
-    let p = z .before .before .before .before .pre in
+    let p = z .before .before .before .before .before .pre in
     zeros-raise (p .0) (p .1) (z .clear .ensures)
 
 returns : tie.Need-returns
 returns c =
     let d = c .before .before .before in
     let z = d .before .before .before .before .before in
-    let p = z .before .before .before .before .pre in
+    let p = z .before .before .before .before .before .pre in
     (risen-then (zeros-risen (p .0) (p .1) (z .clear .ensures)) (d .resume .ensures .0), d .resume .ensures .1)
 
 rounds-requires : tie.Need-rounds-requires
 rounds-requires c κs =
     let d = c .before .before .before .before .before .before in
     let z = d .before .before .before .before .before in
-    let p = z .before .before .before .before .pre in
+    let p = z .before .before .before .before .before .pre in
     raising-kept (zeros-raise (p .0) (p .1) (z .clear .ensures)) (d .resume .ensures .0)
 
 returns-2 : tie.Need-returns-2
@@ -30,7 +30,7 @@ returns-2 c =
     let r = c .before .before .before in
     let d = r .before .before .before .before .before .before .before in
     let z = d .before .before .before .before .before in
-    let p = z .before .before .before .before .pre in (
+    let p = z .before .before .before .before .before .pre in (
       risen-then (risen-then (zeros-risen (p .0) (p .1) (z .clear .ensures)) (d .resume .ensures .0)) (r .rounds .ensures .0),
       r .rounds .ensures .1,
     )
@@ -40,7 +40,7 @@ settle-requires c κs =
     let r = c .before .before .before .before .before .before in
     let d = r .before .before .before .before .before .before .before in
     let z = d .before .before .before .before .before in
-    let p = z .before .before .before .before .pre in
+    let p = z .before .before .before .before .before .pre in
     raising-kept (zeros-raise (p .0) (p .1) (z .clear .ensures)) (risen-then (d .resume .ensures .0) (r .rounds .ensures .0))
 
 returns-3 : tie.Need-returns-3
@@ -49,7 +49,7 @@ returns-3 c =
     let r = s .before .before .before .before .before .before .before in
     let d = r .before .before .before .before .before .before .before in
     let z = d .before .before .before .before .before in
-    let p = z .before .before .before .before .pre in
+    let p = z .before .before .before .before .before .pre in
     let first = risen-then (zeros-risen (p .0) (p .1) (z .clear .ensures)) (d .resume .ensures .0) in
     (risen-then (risen-then first (r .rounds .ensures .0)) (s .settle .ensures .0), s .settle .ensures .1)
 
