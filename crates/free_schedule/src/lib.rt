@@ -4,6 +4,8 @@ ghost use Rattle.list_format.specs.Lists.{AcceptedList};
 ghost use Rattle.free_schedule.specs.FreeCall.{FreeAs, Roomy, FreeIn};
 use list_format::Verdict;
 use pair_ends::ENDS;
+use pair_ends::FEW_ENDS;
+use pair_ends::FEW_PAIRS;
 use pair_ends::NONE;
 use pair_ends::REGISTERS;
 
@@ -19,7 +21,7 @@ pub fn fill(
     n: usize,
     count: usize,
     lasts: &[u16; REGISTERS],
-    before: &[u16; ENDS],
+    before: &[u16],
     answer: &mut [u32],
 ) -> u32
     requires { ⌜ Roomy (now words) n count (now answer) ⌝ }
@@ -28,7 +30,25 @@ pub fn fill(
     free_climb::climb(words, count, &mut answer[..n], lasts, before)
 }
 
-// The answer for an accepted list of n registers.
+// The answer for an accepted list of n registers; the ends of its pairs fill the places lent.
+fn answer_by(
+    words: &[u32],
+    n: usize,
+    count: usize,
+    before: &mut [u16],
+    answer: &mut [u32],
+) -> FreeAnswer
+    requires { ⌜ Roomy (now words) n count (now answer) ⌝ }
+    ensures { λ r. ⌜ FreeAs (now (words .entry)) (now (answer .entry)) (now (answer .exit)) r ⌝ }
+{
+    let mut lasts = [0u16; REGISTERS];
+    pair_ends::link(words, count, &mut lasts, before);
+    let common = free_climb::common(words, count);
+    let free = fill(words, n, count, &lasts, before, answer);
+    FreeAnswer::Periods(common, free)
+}
+
+// The same with places for the ends of few pairs, or for those of the most.
 fn settle(words: &[u32], n: usize, count: usize, answer: &mut [u32]) -> FreeAnswer
     requires { ⌜ AcceptedList (now words) n count ⌝ }
     ensures { λ r. ⌜ FreeAs (now (words .entry)) (now (answer .entry)) (now (answer .exit)) r ⌝ }
@@ -36,12 +56,12 @@ fn settle(words: &[u32], n: usize, count: usize, answer: &mut [u32]) -> FreeAnsw
     if answer.len() < n {
         return FreeAnswer::Refused(2, 0);
     }
-    let mut lasts = [0u16; REGISTERS];
+    if count <= FEW_PAIRS {
+        let mut few = [NONE; FEW_ENDS];
+        return answer_by(words, n, count, &mut few, answer);
+    }
     let mut before = [NONE; ENDS];
-    pair_ends::link(words, count, &mut lasts, &mut before);
-    let common = free_climb::common(words, count);
-    let free = fill(words, n, count, &lasts, &before, answer);
-    FreeAnswer::Periods(common, free)
+    answer_by(words, n, count, &mut before, answer)
 }
 
 // Refusals 11 to 17 of the list, then 2: an answer buffer of fewer than n places. Else the common and the free period

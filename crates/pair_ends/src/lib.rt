@@ -10,6 +10,11 @@ pub const REGISTERS: usize = timing::MAX_REGISTERS as usize;
 // A pair has two ends: 2k + 1 is the launch of pair k, 2k + 2 its capture; 0 is none.
 pub const ENDS: usize = 2 * MAX_PAIRS;
 
+// Lists of so many pairs, and places for their ends, which are filled in less time.
+pub const FEW_PAIRS: usize = 128;
+
+pub const FEW_ENDS: usize = 2 * FEW_PAIRS;
+
 // What stands where no end has been put: no end is before it.
 pub const NONE: u16 = 0x1FFF;
 

@@ -8,6 +8,8 @@ ghost use Rattle.list_format.specs.Lists.{registers, pairs};
 ghost use Rattle.free_laws.specs.Free.{common as commonOf, freePeriod};
 use list_format::Verdict;
 use pair_ends::ENDS;
+use pair_ends::FEW_ENDS;
+use pair_ends::FEW_PAIRS;
 use pair_ends::NONE;
 use pair_ends::REGISTERS;
 use refusals::Fault;
@@ -37,7 +39,7 @@ fn fill_split(
     common: u32,
     free: u32,
     lasts: &[u16; REGISTERS],
-    before: &[u16; ENDS],
+    before: &[u16],
     answer: &mut [u32],
     scratch: &mut [u32],
 ) -> u32
@@ -50,21 +52,40 @@ fn fill_split(
     two
 }
 
-// The plan of an accepted list with n registers and m pairs; the scratch is left zero.
-fn show(words: &[u32], n: usize, m: usize, answer: &mut [u32], scratch: &mut [u32]) -> Planning
+// The plan of an accepted list with n registers and m pairs; the ends of its pairs fill the places lent, and the scratch is left zero.
+fn plan_by(
+    words: &[u32],
+    n: usize,
+    m: usize,
+    before: &mut [u16],
+    answer: &mut [u32],
+    scratch: &mut [u32],
+) -> Planning
     requires { ⌜ PlanAllowed (now words) n m (length (now answer)) (length (now scratch)) ⌝ }
     ensures { λ r. ⌜ PlanAs (now (words .entry)) (now (answer .entry)) (now (answer .exit)) (now (scratch .entry)) (now (scratch .exit)) r ⌝ }
 {
     let mut lasts = [0u16; REGISTERS];
-    let mut before = [NONE; ENDS];
     let end = timing::scratch_places(n, m);
-    pair_ends::link(words, m, &mut lasts, &mut before);
+    pair_ends::link(words, m, &mut lasts, before);
     let common = free_climb::common(words, m);
-    let free = free_schedule::fill(words, n, m, &lasts, &before, answer);
-    let two = fill_split(words, n, m, common, free, &lasts, &before, answer, scratch);
+    let free = free_schedule::fill(words, n, m, &lasts, before, answer);
+    let two = fill_split(words, n, m, common, free, &lasts, before, answer, scratch);
     buffers::clear(scratch, end);
     let offset = common - two;
     Planning::Planned(common, free, two, offset)
+}
+
+// The same with places for the ends of few pairs, or for those of the most.
+fn show(words: &[u32], n: usize, m: usize, answer: &mut [u32], scratch: &mut [u32]) -> Planning
+    requires { ⌜ PlanAllowed (now words) n m (length (now answer)) (length (now scratch)) ⌝ }
+    ensures { λ r. ⌜ PlanAs (now (words .entry)) (now (answer .entry)) (now (answer .exit)) (now (scratch .entry)) (now (scratch .exit)) r ⌝ }
+{
+    if m <= FEW_PAIRS {
+        let mut few = [NONE; FEW_ENDS];
+        return plan_by(words, n, m, &mut few, answer, scratch);
+    }
+    let mut before = [NONE; ENDS];
+    plan_by(words, n, m, &mut before, answer, scratch)
 }
 
 // Refusals 11 to 17 of the list, then 2 and 1. Else the three periods and the offset; the free timings fill the first n

@@ -14,7 +14,6 @@ ghost use Rattle.free_laws.specs.Constraint.{Bound};
 ghost use Rattle.split_laws.specs.Split.{timeOf, timings};
 ghost use Rattle.plan_laws.specs.Reach.{reachOf, ahead, behind, reachPeriod, lateAbove, NoneBelow, Raised, ReachStep};
 ghost use Rattle.reach.specs.Settling.{PairReaching, Reaching, Guided, ClosedAt, ClosedAll, Swept, Reached};
-use pair_ends::ENDS;
 use pair_ends::REGISTERS;
 use timing::Pair;
 use timing::larger;
@@ -264,7 +263,7 @@ fn visit(
     top: u32,
     r: usize,
     lasts: &[u16; REGISTERS],
-    before: &[u16; ENDS],
+    before: &[u16],
     w: Waiting,
     reach: &mut [u32],
     line: &mut [u16; REGISTERS],
@@ -308,7 +307,7 @@ fn follow(
     count: usize,
     top: u32,
     lasts: &[u16; REGISTERS],
-    before: &[u16; ENDS],
+    before: &[u16],
     w: Waiting,
     reach: &mut [u32],
     line: &mut [u16; REGISTERS],
@@ -338,7 +337,7 @@ fn guide(
     top: u32,
     reach: &mut [u32],
     lasts: &[u16; REGISTERS],
-    before: &[u16; ENDS],
+    before: &[u16],
 ) -> u32
     requires { ⌜ Reaching (now words) count top (now reach) ⌝ }
     ensures { λ r. ⌜ Guided (now (words .entry)) count top (now (reach .exit)) r ⌝ }
@@ -368,7 +367,7 @@ pub fn two_period(
     top: u32,
     floor: u32,
     lasts: &[u16; REGISTERS],
-    before: &[u16; ENDS],
+    before: &[u16],
     reach: &mut [u32],
 ) -> u32
     requires { ⌜ AcceptedList (now words) (length (now reach)) count × (top ≡ common (pairs (now words))) × Bound (pairs (now words)) (floor + 1) ⌝ }

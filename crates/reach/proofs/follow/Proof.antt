@@ -14,18 +14,18 @@ abbrev μ-loop : tie.MeasureT-loop
 μ-loop words count top lasts before reach₀ line₀ place₀ now₀ left₀ reach line place now left = left
 
 same-length : tie.Need-same-length Inv-loop μ-loop
-same-length c = let l = c .before .before .before .before .before in same-size (l .before .before .before .pre .reaching) (l .loop .inv .reaching)
+same-length c = let l = c .before .before .before .before .before in same-size (l .before .before .before .before .pre .reaching) (l .loop .inv .reaching)
 
 visit-requires : tie.Need-visit-requires Inv-loop μ-loop
 visit-requires c κs = let w = c .before .before .before .before .before .before in w .before .before .before .before .before .before .loop .inv
 
 same-length-2 : tie.Need-same-length-2 Inv-loop μ-loop
-same-length-2 c = let l = c .before in same-size (l .before .before .before .pre .reaching) (l .loop .inv .reaching)
+same-length-2 c = let l = c .before in same-size (l .before .before .before .before .pre .reaching) (l .loop .inv .reaching)
 
 pub follow-spec : {M : Type 1} → statement M
 follow-spec =
     tie.close
     (tie.spec
-    Inv-loop μ-loop (λ c. c .before .before .pre) (λ c. search needs) (λ c κs. search needs) same-length
+    Inv-loop μ-loop (λ c. c .before .before .before .pre) (λ c. search needs) (λ c κs. search needs) same-length
     (λ c. c .before .before .before .before .before .loop .inv) (λ c κs. search needs) visit-requires (λ c. omega arith)
     (λ c. c .before .before .visit .ensures) same-length-2 (λ c. c .before .loop .inv))

@@ -9,7 +9,7 @@ use Rattle.reach.proofs.two_period.Tie as tie
 guide-requires : tie.Need-guide-requires
 guide-requires c κs =
     let w = c .before .before .before in
-    let b = w .before .before .before .before in
+    let b = w .before .before .before .before .before in
     reaching-start (b .args .floor) (now (b .args .reach)) (b .pre .0) (b .pre .1) (b .pre .2) (w .level .ensures)
 
 lift-requires : tie.Need-lift-requires

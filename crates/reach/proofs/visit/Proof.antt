@@ -14,13 +14,13 @@ abbrev μ-loop : tie.MeasureT-loop
 μ-loop words count top r lasts before reach₀ line₀ place₀ now₀ end₀ reach line place now end = end
 
 loop-holds : tie.Need-loop-holds Inv-loop μ-loop
-loop-holds c = c .before .before .before .pre
+loop-holds c = c .before .before .before .before .pre
 
 same-length : tie.Need-same-length Inv-loop μ-loop
-same-length c = let l = c .before .before in same-size (l .before .before .before .before .pre .reaching) (l .loop .inv .reaching)
+same-length c = let l = c .before .before in same-size (l .before .before .before .before .before .pre .reaching) (l .loop .inv .reaching)
 
 same-length-2 : tie.Need-same-length-2 Inv-loop μ-loop
-same-length-2 c = let l = c .before in same-size (l .before .before .before .before .pre .reaching) (l .loop .inv .reaching)
+same-length-2 c = let l = c .before in same-size (l .before .before .before .before .before .pre .reaching) (l .loop .inv .reaching)
 
 cross-requires : tie.Need-cross-requires Inv-loop μ-loop
 cross-requires c κs = (c .before .before .before .loop .inv .reaching, c .before .if1 .left)

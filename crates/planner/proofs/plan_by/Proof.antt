@@ -1,37 +1,37 @@
--- `show`: the free timings, then the split's timings behind them, and the scratch left zero: the whole plan (`planned`).
+-- `plan_by`: the free timings, then the split's timings behind them, and the scratch left zero: the whole plan (`planned`).
 use denote.Ref.{now}
 use Rattle.planner.proofs.PlanCallLaws.{allowed-kept, planned, two-fits}
 use borrow.Author.Needs.{needs}
-use Rattle.planner.proofs.show.Statement.{statement}
-use Rattle.planner.proofs.show.Tie as tie
+use Rattle.planner.proofs.plan_by.Statement.{statement}
+use Rattle.planner.proofs.plan_by.Tie as tie
 
 fill-split-requires : tie.Need-fill-split-requires
 fill-split-requires c κs =
     let f = c .before .before .before .before .before .before in
-    let sized = f .before .before .before .before .before .before .before .before in
-    let b = sized .before .before .before .before in
+    let b = f .before .before .before .before .before .before .before .before .before .before .before .before .before .before .before in
     (allowed-kept (b .pre) (f .fill .kept .1 .1 .1 .1 .1 .0), f .before .before .before .before .common .ensures, f .fill .ensures .period)
 
 sub-offset : tie.Need-sub-offset
 sub-offset c =
     let t = c .before .before .before .before .before .before .before .before in
     let f = t .before .before .before .before .before .before .before in
-    let sized = f .before .before .before .before .before .before .before .before in
-    let b = sized .before .before .before .before in
+    let sized = f .before .before .before .before .before .before .before .before .before .before in
+    let b = sized .before .before .before .before .before in
     two-fits (now (b .args .words)) (f .before .before .before .before .common .ensures) (t .fill-split .ensures .period)
 
 returns : tie.Need-returns
 returns c =
     let t = c .before .before .before .before .before .before .before .before in
     let f = t .before .before .before .before .before .before .before in
-    let sized = f .before .before .before .before .before .before .before .before in
-    let b = sized .before .before .before .before in
+    let sized = f .before .before .before .before .before .before .before .before .before .before in
+    let b = sized .before .before .before .before .before in
     planned (now (b .args .words)) (now (b .args .answer)) (now (b .args .scratch)) (b .pre)
     (f .before .before .before .before .common .ensures) (f .fill .ensures) (t .fill-split .ensures)
     (rw (sized .scratch-places .ensures) at (c .before .before .clear .ensures))
 
-pub show-spec : {M : Type 1} → statement M
-show-spec =
+pub plan-by-spec : {M : Type 1} → statement M
+plan-by-spec =
     tie.close
-    (tie.spec (λ c κs. search needs) (λ c κs. search needs) (λ c κs. search needs) (λ c κs. search needs) fill-split-requires
-    (λ c κs. search needs) sub-offset (λ c. search needs) (λ c. search needs) returns)
+    (tie.spec
+    (λ c κs. search needs) (λ c κs. search needs) (λ c κs. search needs) (λ c κs. search needs) fill-split-requires
+    (λ c κs. search needs) sub-offset (λ c. search needs) (λ c. search needs) (λ c. search needs) returns)
