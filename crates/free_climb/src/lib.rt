@@ -247,14 +247,43 @@ const FEW_PAIRS: usize = 512;
 
 const ROUNDS: usize = 5;
 
-// Two plain trials, but more with few registers, where a descent is dear beside them.
+// How many of them: with few registers a descent is dear beside them; with many, where it takes longest, they are worth another.
 const FEW_REGISTERS: usize = 64;
 
+const MANY_REGISTERS: usize = 256;
+
 fn plain_trials(n: usize) -> usize {
-    if n < FEW_REGISTERS { 6 } else { 2 }
+    if n < FEW_REGISTERS {
+        return 6;
+    }
+    if n < MANY_REGISTERS { 1 } else { 2 }
 }
 
-// A list of few pairs: plain trials; where one is left undecided, one by all means.
+// From a period that plain rounds leave undecided: with many registers one trial by all means before the descent.
+fn climb_past(
+    words: &[u32],
+    count: usize,
+    x: &mut [u32],
+    parents: &mut [u16; REGISTERS],
+    lasts: &[u16; REGISTERS],
+    before: &[u16],
+    start: u32,
+) -> u32
+    requires { ⌜ Trial (now words) count start (now x) ⌝ }
+    ensures { λ r. ⌜ Climbed (now (words .entry)) (now (x .exit)) r ⌝ }
+{
+    if x.len() < MANY_REGISTERS {
+        return come_down(words, count, x, parents, lasts, before, start);
+    }
+    let once = Manner {
+        rounds: 0,
+        trials: 1,
+        kept: true,
+    };
+    climb_on(words, count, x, parents, lasts, before, once, start)
+}
+
+// A list of few pairs: plain trials come first.
 fn climb_few(
     words: &[u32],
     count: usize,
@@ -272,24 +301,10 @@ fn climb_few(
         trials: plain_trials(x.len()),
         kept: false,
     };
-    let once = Manner {
-        rounds: 0,
-        trials: 1,
-        kept: true,
-    };
     match ascend(words, count, x, parents, lasts, before, plain, start) {
         Ascent::Done(period) => period,
         Ascent::Onward(period) => come_down(words, count, x, parents, lasts, before, period),
-        Ascent::Undecided(period) => climb_on(
-            words,
-            count,
-            x,
-            parents,
-            lasts,
-            before,
-            once,
-            period,
-        ),
+        Ascent::Undecided(period) => climb_past(words, count, x, parents, lasts, before, period),
     }
 }
 

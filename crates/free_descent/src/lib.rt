@@ -6,12 +6,14 @@ ghost use mathlib.Core.Path.{_≡_};
 ghost use Prim.Native.Nat.{_≤_, _<_};
 ghost use lib.ListN.{length};
 ghost use Rattle.list_format.specs.Lists.{pairCount, pairs, IsAccepted, AcceptedList};
+ghost use Rattle.timing.specs.Rules.{InRange};
 ghost use Rattle.free_laws.specs.Constraint.{Bound};
 use free_rounds::NO_RULE;
 use pair_ends::REGISTERS;
 use pair_ends::wide;
 use std::num::wrapping_add_u32;
 use std::num::wrapping_sub_u32;
+use timing::Pair;
 use timing::smaller;
 
 // How far the descent has come: times are told at the period `low`; `level` is the period it has come down to, `size` the count of
@@ -19,11 +21,11 @@ use timing::smaller;
 // there once it is over, if it is one.
 pub struct Descent {
     pub low: u32,
-    pub level: u32,
     pub size: usize,
+    pub level: u32,
     pub height: usize,
-    pub at: usize,
     pub rule: u16,
+    pub at: usize,
     pub over: bool,
 }
 
@@ -36,10 +38,11 @@ pub struct Link {
     pub setup: u32,
 }
 
-// A rule, and up to which period it is broken; 0 where it is not broken at `low`.
+// The end of a rule that is broken, and up to which period, 0 if none is; and up to which period another rule is.
 pub struct Broken {
-    pub rule: u16,
+    pub end: usize,
     pub until: u32,
+    pub other: u32,
 }
 
 // By how much the registers of a branch move: their times, and the counts of setup rules above them.
@@ -149,15 +152,12 @@ fn time_of(x: &[u32], r: usize) -> u32 {
     if r < x.len() { x[r] } else { 0 }
 }
 
-// Up to which period, the level at most, a rule is broken; 0 where it is not broken at `low`.
-fn broken_until(l: Link, d: Descent, x: &[u32], forest: &[u16; PLACES]) -> u32 {
-    let asked = wrapping_add_u32(time_of(x, l.from), l.gain);
-    let there = wrapping_add_u32(time_of(x, l.to), l.allowance);
+// Up to which period, the level at most, a rule is broken that asks for one time and has another, with so many setup rules above
+// it and above the register that it ends at; 0 where it is not broken at `low`.
+fn until(d: Descent, asked: u32, there: u32, above: u32, own: u32) -> u32 {
     if asked <= there {
         return 0;
     }
-    let above = wrapping_add_u32(setups_of(forest, l.from), l.setup);
-    let own = setups_of(forest, l.to);
     if above <= own {
         return d.level;
     }
@@ -165,23 +165,63 @@ fn broken_until(l: Link, d: Descent, x: &[u32], forest: &[u16; PLACES]) -> u32 {
     smaller(d.level, wrapping_add_u32(d.low, further))
 }
 
-// The rule of an end that ends at its register: the other rule of the pair starts from there.
-fn into(end: usize) -> usize {
-    let e = end % 0x2000;
-    if e % 2 == 1 {
-        return e;
+// The same of a rule of a pair.
+fn broken_until(p: Pair, setup: bool, d: Descent, x: &[u32], forest: &[u16; PLACES]) -> u32
+    requires { ⌜ InRange (length (now x)) p ⌝ }
+{
+    let a = p.launch as usize;
+    let b = p.capture as usize;
+    let launched = x[a];
+    let captured = x[b];
+    let before = setups_of(forest, a);
+    let after = setups_of(forest, b);
+    if setup {
+        let asked = wrapping_add_u32(launched, p.greatest);
+        let there = wrapping_add_u32(captured, d.low);
+        return until(d, asked, there, wrapping_add_u32(before, 1), after);
     }
-    if e > 1 { e - 2 } else { 0 }
+    until(
+        d,
+        captured,
+        wrapping_add_u32(launched, p.least),
+        after,
+        before,
+    )
 }
 
-fn worse(a: Broken, rule: usize, until: u32) -> Broken {
+fn worse(a: Broken, end: usize, until: u32) -> Broken {
+    let mut next = a;
+    if until <= a.other {
+        return next;
+    }
     if until <= a.until {
+        next.other = until;
+        return next;
+    }
+    next.other = a.until;
+    next.until = until;
+    next.end = end;
+    next
+}
+
+// One rule more that ends at a register: at its capture end a pair's setup, at its launch end its hold.
+fn worse_at(
+    words: &[u32],
+    count: usize,
+    x: &[u32],
+    forest: &[u16; PLACES],
+    d: Descent,
+    a: Broken,
+    end: usize,
+) -> Broken
+    requires { ⌜ AcceptedList (now words) (length (now x)) count × (0 < end) ⌝ }
+{
+    let k = (end - 1) / 2;
+    if k >= count {
         return a;
     }
-    Broken {
-        rule: (rule % 0x2000) as u16,
-        until: until,
-    }
+    let p = delay_list::pair_at(words, k);
+    worse(a, end, broken_until(p, end % 2 == 0, d, x, forest))
 }
 
 // Of the rules that end at register r the one that is broken up to the longest period.
@@ -195,21 +235,28 @@ fn worst_into(
     d: Descent,
     r: usize,
 ) -> Broken
-    requires { ⌜ IsAccepted (now words) ⌝ }
-    requires { ⌜ count ≡ pairCount (now words) ⌝ }
+    requires { ⌜ AcceptedList (now words) (length (now x)) count ⌝ }
 {
     let mut most = Broken {
-        rule: NO_RULE,
+        end: 0,
         until: 0,
+        other: 0,
     };
     let mut end = pair_ends::last_at(lasts, r);
     while end > 0 {
-        let rule = into(end);
-        let l = link_of(words, count, rule, d.low);
-        most = worse(most, rule, broken_until(l, d, x, forest));
+        most = worse_at(words, count, x, forest, d, most, end);
         end = pair_ends::end_before(before, end);
     }
     most
+}
+
+// The rule that ends at the register of an end: the other rule of the pair starts from there.
+fn into(end: usize) -> usize {
+    let e = end % 0x2000;
+    if e % 2 == 1 {
+        return e;
+    }
+    if e > 1 { e - 2 } else { 0 }
 }
 
 // ---- keys: up to which period a register has a broken rule into it, or longer
@@ -349,8 +396,30 @@ fn move_branch(
     last
 }
 
-// A rule that starts from a register of the branch: the register that it ends at, if that is outside, has at least its key.
+// The register that a rule of a pair ends at, if that is outside the branch, has at least the key of the rule.
 fn ask_along(
+    p: Pair,
+    setup: bool,
+    x: &[u32],
+    forest: &[u16; PLACES],
+    key: &mut [u32; REGISTERS],
+    heap: &mut [u16; REGISTERS],
+    place: &mut [u16; REGISTERS],
+    d: Descent,
+) -> usize
+    requires { ⌜ InRange (length (now x)) p ⌝ }
+{
+    let to = if setup { p.capture } else { p.launch };
+    let r = to as usize;
+    if moves(forest, r) {
+        return d.size;
+    }
+    let longest = broken_until(p, setup, d, x, forest);
+    raise_key(key, heap, place, d.size, r, longest)
+}
+
+// One rule that starts from the register of an end: at its launch end a pair's setup, at its capture end its hold.
+fn ask_at(
     words: &[u32],
     count: usize,
     x: &[u32],
@@ -359,20 +428,19 @@ fn ask_along(
     heap: &mut [u16; REGISTERS],
     place: &mut [u16; REGISTERS],
     d: Descent,
-    rule: usize,
+    end: usize,
 ) -> usize
-    requires { ⌜ IsAccepted (now words) ⌝ }
-    requires { ⌜ count ≡ pairCount (now words) ⌝ }
+    requires { ⌜ AcceptedList (now words) (length (now x)) count × (0 < end) ⌝ }
 {
-    let l = link_of(words, count, rule, d.low);
-    if moves(forest, l.to) {
+    let k = (end - 1) / 2;
+    if k >= count {
         return d.size;
     }
-    let until = broken_until(l, d, x, forest);
-    raise_key(key, heap, place, d.size, l.to, until)
+    let p = delay_list::pair_at(words, k);
+    ask_along(p, end % 2 == 1, x, forest, key, heap, place, d)
 }
 
-// All rules that start from register r: rule e - 1 is the one of end e.
+// All rules that start from register r.
 fn ask_from(
     words: &[u32],
     count: usize,
@@ -386,14 +454,12 @@ fn ask_from(
     d: Descent,
     r: usize,
 ) -> usize
-    requires { ⌜ IsAccepted (now words) ⌝ }
-    requires { ⌜ count ≡ pairCount (now words) ⌝ }
+    requires { ⌜ AcceptedList (now words) (length (now x)) count ⌝ }
 {
     let mut now = d;
     let mut end = pair_ends::last_at(lasts, r);
     while end > 0 {
-        let rule = end - 1;
-        let size = ask_along(words, count, x, forest, key, heap, place, now, rule);
+        let size = ask_at(words, count, x, forest, key, heap, place, now, end);
         now.size = size;
         end = pair_ends::end_before(before, end);
     }
@@ -415,8 +481,7 @@ fn ask_around(
     first: usize,
     last: usize,
 ) -> usize
-    requires { ⌜ IsAccepted (now words) ⌝ }
-    requires { ⌜ count ≡ pairCount (now words) ⌝ }
+    requires { ⌜ AcceptedList (now words) (length (now x)) count ⌝ }
 {
     let mut now = d;
     let mut r = first;
@@ -498,9 +563,9 @@ fn hang(
     before: &[u16],
     d: Descent,
     l: Link,
+    other: u32,
 ) -> Descent
-    requires { ⌜ IsAccepted (now words) ⌝ }
-    requires { ⌜ count ≡ pairCount (now words) ⌝ }
+    requires { ⌜ AcceptedList (now words) (length (now x)) count ⌝ }
 {
     let mut next = d;
     let r = d.at;
@@ -527,6 +592,7 @@ fn hang(
         last,
     );
     stand_still(forest, r, last);
+    lower_key(key, heap, place, next.size, r, other);
     resumed(next, forest)
 }
 
@@ -579,8 +645,7 @@ fn turn(
     before: &[u16],
     d: Descent,
 ) -> Descent
-    requires { ⌜ IsAccepted (now words) ⌝ }
-    requires { ⌜ count ≡ pairCount (now words) ⌝ }
+    requires { ⌜ AcceptedList (now words) (length (now x)) count ⌝ }
 {
     let mut next = taken(d, key, heap);
     if next.over {
@@ -592,8 +657,9 @@ fn turn(
         return resumed(next, forest);
     }
     next.level = smaller(next.level, worst.until);
-    next.rule = worst.rule;
-    let l = link_of(words, count, wide(worst.rule), next.low);
+    let rule = into(worst.end);
+    next.rule = (rule % 0x2000) as u16;
+    let l = link_of(words, count, rule, next.low);
     if moves_first(next, key, l) {
         return put_off(next, forest, l.from);
     }
@@ -610,6 +676,7 @@ fn turn(
         before,
         next,
         l,
+        worst.other,
     )
 }
 

@@ -1,7 +1,7 @@
 // The ends of the pairs at each register, for walks from a register along its pairs.
 // They are a hint only, and nothing is promised of them.
 ghost use mathlib.Core.Path.{_≡_};
-ghost use Prim.Native.Nat.{_<_};
+ghost use Prim.Native.Nat.{_^_, _<_};
 ghost use Rattle.list_format.specs.Lists.{pairCount, IsAccepted};
 use timing::MAX_PAIRS;
 
@@ -18,13 +18,16 @@ pub const FEW_ENDS: usize = 2 * FEW_PAIRS;
 // What stands where no end has been put: no end is before it.
 pub const NONE: u16 = 0x1FFF;
 
-// End e + 1 is put at register r, after the ends that are there.
-fn join(r: usize, e: usize, lasts: &mut [u16; REGISTERS], before: &mut [u16]) {
-    let at = r % REGISTERS;
-    let i = e % ENDS;
-    if i < before.len() {
-        before[i] = lasts[at];
-        lasts[at] = (i + 1) as u16;
+// Ends i + 1 and i + 2 are put at registers a and b, after the ends that are there.
+fn join(a: usize, b: usize, i: usize, lasts: &mut [u16; REGISTERS], before: &mut [u16])
+    requires { ⌜ i < 2 ^ 15 ⌝ }
+{
+    let j = i + 1;
+    if j < before.len() {
+        before[i] = lasts[a % REGISTERS];
+        lasts[a % REGISTERS] = (i + 1) as u16;
+        before[j] = lasts[b % REGISTERS];
+        lasts[b % REGISTERS] = (j + 1) as u16;
     }
 }
 
@@ -36,9 +39,8 @@ pub fn link(words: &[u32], count: usize, lasts: &mut [u16; REGISTERS], before: &
     let mut k = 0;
     while k < count {
         let p = delay_list::pair_at(words, k);
-        let twice = 2 * (k % MAX_PAIRS);
-        join(p.launch as usize, twice, lasts, before);
-        join(p.capture as usize, twice + 1, lasts, before);
+        let first = 2 * (k % MAX_PAIRS);
+        join(p.launch as usize, p.capture as usize, first, lasts, before);
         k += 1;
     }
 }

@@ -16,5 +16,5 @@ pub ask-from-spec : {M : Type 1} → statement M
 ask-from-spec =
     tie.close
     (tie.spec
-    Inv-loop μ-loop (λ c κs. search needs) (λ c. omega arith) (λ c. search needs) (λ c κs. search needs)
-    (λ c κs. search needs) (λ c. c .end-before .ensures) (λ c. omega arith) (λ c. search needs))
+    Inv-loop μ-loop (λ c κs. search needs) (λ c. omega arith) (λ c κs. search needs) (λ c κs. search needs)
+    (λ c. c .end-before .ensures) (λ c. omega arith) (λ c. search needs))

@@ -24,8 +24,9 @@ loop-holds c = refl
 
 turn-requires : tie.Need-turn-requires Inv-loop μ-loop
 turn-requires c κs =
-    let p = c .before .before .before .before .before .before .before .before .before .before .before .before .before .before .before .before .before .before .before .before .before .pre in
-    (p .accepted, p .pairsAre)
+    let l = c .before .before .before .before .before .before .before in
+    let p = l .before .before .before .before .before .before .before .before .before .before .before .before .before .before .pre in
+    record { accepted = p .accepted; registersAre = l .loop .inv ∙ l .before .before .before .before .before .before .before .set-apart .kept .0 ∙ p .registersAre; pairsAre = p .pairsAre }
 
 loop-less : tie.Need-loop-less Inv-loop μ-loop
 loop-less c = omega (arith, c .turns-left .ensures, c .before .before .before .before .before .before .before .before .before .before .loop-test .taken)

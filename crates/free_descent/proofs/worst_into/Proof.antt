@@ -17,5 +17,4 @@ worst-into-spec =
     tie.close
     (tie.spec
     Inv-loop μ-loop (λ c κs. search needs) (λ c. omega arith) (λ c κs. search needs) (λ c κs. search needs)
-    (λ c κs. search needs) (λ c κs. search needs) (λ c κs. search needs) (λ c. c .end-before .ensures) (λ c. omega arith)
-    (λ c. search needs))
+    (λ c. c .end-before .ensures) (λ c. omega arith) (λ c. search needs))
