@@ -259,7 +259,15 @@ fn plain_trials(n: usize) -> usize {
     if n < MANY_REGISTERS { 1 } else { 2 }
 }
 
-// From a period that plain rounds leave undecided: with many registers one trial by all means before the descent.
+// Neither few nor many.
+fn some_registers(n: usize) -> bool {
+    if n < FEW_REGISTERS {
+        return false;
+    }
+    n < MANY_REGISTERS
+}
+
+// From a period that plain rounds leave undecided: with few or many registers one trial by all means before the descent.
 fn climb_past(
     words: &[u32],
     count: usize,
@@ -272,7 +280,7 @@ fn climb_past(
     requires { ⌜ Trial (now words) count start (now x) ⌝ }
     ensures { λ r. ⌜ Climbed (now (words .entry)) (now (x .exit)) r ⌝ }
 {
-    if x.len() < MANY_REGISTERS {
+    if some_registers(x.len()) {
         return come_down(words, count, x, parents, lasts, before, start);
     }
     let once = Manner {
