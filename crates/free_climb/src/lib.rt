@@ -77,13 +77,6 @@ pub struct Manner {
     pub kept: bool,
 }
 
-// No register has a parent, if any was kept.
-fn anew(parents: &mut [u16; REGISTERS], kept: bool) {
-    if kept {
-        free_trials::forget(parents);
-    }
-}
-
 // One trial. Plain rounds start with no parents.
 fn attempt(
     words: &[u32],
@@ -102,7 +95,10 @@ fn attempt(
     if rounds == 0 {
         return free_trials::quick(words, count, x, parents, kept, lasts, before, period);
     }
-    anew(parents, kept);
+    if kept {
+        free_trials::forget(parents);
+        return free_trials::plain(words, count, x, parents, rounds, period);
+    }
     free_trials::plain(words, count, x, parents, rounds, period)
 }
 
@@ -245,7 +241,7 @@ fn climb_on(
 // Up to so many pairs a round takes less time than what stands behind it; then plain trials of so many rounds come first.
 const FEW_PAIRS: usize = 512;
 
-const ROUNDS: usize = 5;
+const ROUNDS: usize = 6;
 
 // How many of them: with few registers a descent is dear beside them; with many, where it takes longest, they are worth another.
 const FEW_REGISTERS: usize = 64;

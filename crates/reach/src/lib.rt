@@ -204,7 +204,25 @@ fn begin(words: &[u32], count: usize, top: u32, reach: &mut [u32]) -> u32
     most
 }
 
-// What the pair asks for is seen, and a register that was raised to above the longest goes in the heap.
+// Register r, if its reach is above the longest period seen, goes in the heap. The new size.
+fn join(
+    most: u32,
+    reach: &[u32],
+    line: &mut [u16; REGISTERS],
+    place: &mut [u16; REGISTERS],
+    size: usize,
+    r: usize,
+) -> usize {
+    if r >= reach.len() {
+        return size;
+    }
+    if reach[r] <= most {
+        return size;
+    }
+    register_heap::put(reach, line, place, size, r)
+}
+
+// What the pair asks for is seen, and a register that was raised joins the heap.
 fn enter(
     a: Along,
     w: Waiting,
@@ -214,46 +232,28 @@ fn enter(
 ) -> Waiting
     ensures { λ r. ⌜ r .most ≡ max (w .most) (a .asks) ⌝ }
 {
-    let r = a.register;
     let mut next = w;
     next.most = larger(w.most, a.asks);
-    if !a.raised {
-        return next;
+    if a.raised {
+        next.size = join(next.most, reach, line, place, w.size, a.register);
     }
-    if r >= reach.len() {
-        return next;
-    }
-    if reach[r] <= next.most {
-        return next;
-    }
-    next.size = register_heap::put(reach, line, place, w.size, r);
     next
 }
 
-// The heap of the registers with a reach above the longest period seen.
+// The heap of the registers with a reach above the longest period seen. Its size.
 fn gather(
     most: u32,
     reach: &[u32],
     line: &mut [u16; REGISTERS],
     place: &mut [u16; REGISTERS],
-) -> Waiting
-    ensures { λ r. ⌜ r .most ≡ most ⌝ }
-{
-    let mut now = Waiting {
-        most: most,
-        size: 0,
-    };
+) -> usize {
+    let mut size = 0;
     let mut r = 0;
     while r < reach.len() {
-        let a = Along {
-            register: r,
-            raised: true,
-            asks: 0,
-        };
-        now = enter(a, now, reach, line, place);
+        size = join(most, reach, line, place, size, r);
         r += 1;
     }
-    now
+    size
 }
 
 // Along the ends at register r, from each to the register across.
@@ -345,7 +345,11 @@ fn guide(
     let mut line = [0u16; REGISTERS];
     let mut place = [0u16; REGISTERS];
     let most = begin(words, count, top, reach);
-    let w = gather(most, reach, &mut line, &mut place);
+    let size = gather(most, reach, &mut line, &mut place);
+    let w = Waiting {
+        most: most,
+        size: size,
+    };
     follow(
         words,
         count,
