@@ -330,7 +330,10 @@ fn follow(
     now.most
 }
 
-// The heap from its filling until nothing in it is above the period seen.
+// With no more pairs than this part of the registers, sweeps take less time than a guide, which looks at every register.
+const SPARSE: usize = 8;
+
+// The heap from its filling until nothing in it is above the period seen; none where pairs are few.
 fn guide(
     words: &[u32],
     count: usize,
@@ -342,6 +345,9 @@ fn guide(
     requires { ⌜ Reaching (now words) count top (now reach) ⌝ }
     ensures { λ r. ⌜ Guided (now (words .entry)) count top (now (reach .exit)) r ⌝ }
 {
+    if count <= reach.len() / SPARSE {
+        return 0;
+    }
     let mut line = [0u16; REGISTERS];
     let mut place = [0u16; REGISTERS];
     let most = begin(words, count, top, reach);
