@@ -255,39 +255,7 @@ fn plain_trials(n: usize) -> usize {
     if n < MANY_REGISTERS { 1 } else { 2 }
 }
 
-// Neither few nor many.
-fn some_registers(n: usize) -> bool {
-    if n < FEW_REGISTERS {
-        return false;
-    }
-    n < MANY_REGISTERS
-}
-
-// From a period that plain rounds leave undecided: with few or many registers one trial by all means before the descent.
-fn climb_past(
-    words: &[u32],
-    count: usize,
-    x: &mut [u32],
-    parents: &mut [u16; REGISTERS],
-    lasts: &[u16; REGISTERS],
-    before: &[u16],
-    start: u32,
-) -> u32
-    requires { ⌜ Trial (now words) count start (now x) ⌝ }
-    ensures { λ r. ⌜ Climbed (now (words .entry)) (now (x .exit)) r ⌝ }
-{
-    if some_registers(x.len()) {
-        return come_down(words, count, x, parents, lasts, before, start);
-    }
-    let once = Manner {
-        rounds: 0,
-        trials: 1,
-        kept: true,
-    };
-    climb_on(words, count, x, parents, lasts, before, once, start)
-}
-
-// A list of few pairs: plain trials come first.
+// A list of few pairs: plain trials; where one is left undecided, one by all means.
 fn climb_few(
     words: &[u32],
     count: usize,
@@ -305,10 +273,24 @@ fn climb_few(
         trials: plain_trials(x.len()),
         kept: false,
     };
+    let once = Manner {
+        rounds: 0,
+        trials: 1,
+        kept: true,
+    };
     match ascend(words, count, x, parents, lasts, before, plain, start) {
         Ascent::Done(period) => period,
         Ascent::Onward(period) => come_down(words, count, x, parents, lasts, before, period),
-        Ascent::Undecided(period) => climb_past(words, count, x, parents, lasts, before, period),
+        Ascent::Undecided(period) => climb_on(
+            words,
+            count,
+            x,
+            parents,
+            lasts,
+            before,
+            once,
+            period,
+        ),
     }
 }
 

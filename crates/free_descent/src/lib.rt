@@ -680,6 +680,9 @@ fn turn(
     )
 }
 
+// No period is shown too short.
+const NOTHING: u32 = 0;
+
 // The period that the cycle asks for which the rule at the register at hand closes; 0 if it closes none. The parents stay a forest.
 fn closed(words: &[u32], count: usize, n: usize, parents: &mut [u16; REGISTERS], d: Descent) -> u32
     requires { ⌜ AcceptedList (now words) n count ⌝ }
@@ -687,7 +690,7 @@ fn closed(words: &[u32], count: usize, n: usize, parents: &mut [u16; REGISTERS],
 {
     let r = d.at;
     if r >= n {
-        return 0;
+        return NOTHING;
     }
     let own = parents[r % REGISTERS];
     parents[r % REGISTERS] = d.rule;

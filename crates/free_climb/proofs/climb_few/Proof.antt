@@ -1,4 +1,4 @@
--- `climb_few`: plain trials; from a longer period the descent, from one left undecided `climb_past`.
+-- `climb_few`: plain trials; from a longer period the descent, from one left undecided `climb_on`.
 use Rattle.free_climb.proofs.ClimbLaws.{trial-onward, trial-undecided}
 use borrow.Author.Needs.{needs}
 use Rattle.free_climb.proofs.climb_few.Statement.{statement}
@@ -9,8 +9,8 @@ come-down-requires c κs =
     let a = c .before .before .before .before .before .before .before in
     trial-onward (a .before .before .before .before .before .before .before .pre) (a .ascend .kept .1 .1 .0) (a .ascend .ensures) (c .before .before .before .period2 .given .1)
 
-climb-past-requires : tie.Need-climb-past-requires
-climb-past-requires c κs =
+climb-on-requires : tie.Need-climb-on-requires
+climb-on-requires c κs =
     let a = c .before .before .before .before .before .before .before in
     trial-undecided (a .before .before .before .before .before .before .before .pre) (a .ascend .kept .1 .1 .0) (a .ascend .ensures) (c .before .before .before .period3 .given .1)
 
@@ -22,5 +22,5 @@ climb-few-spec =
     tie.close
     (tie.spec
     (λ c κs. search needs) (λ c κs. search needs) (λ c. search needs) (λ c. search needs) come-down-requires
-    (λ c. search needs) climb-past-requires (λ c. search needs) returns (λ c. search needs) (λ c. search needs)
+    (λ c. search needs) climb-on-requires (λ c. search needs) returns (λ c. search needs) (λ c. search needs)
     (λ c. search needs) (λ c. search needs))
