@@ -152,12 +152,22 @@ fn time_of(x: &[u32], r: usize) -> u32 {
     if r < x.len() { x[r] } else { 0 }
 }
 
-// Up to which period, the level at most, a rule is broken that asks for one time and has another, with so many setup rules above
-// it and above the register that it ends at; 0 where it is not broken at `low`.
-fn until(d: Descent, asked: u32, there: u32, above: u32, own: u32) -> u32 {
+// Up to which period, the level at most, a rule between two registers is broken that asks for one time and has another; 0 where it
+// is not broken at `low`. A setup rule counts 1.
+fn until(
+    forest: &[u16; PLACES],
+    d: Descent,
+    from: usize,
+    to: usize,
+    asked: u32,
+    there: u32,
+    setup: u32,
+) -> u32 {
     if asked <= there {
         return 0;
     }
+    let above = wrapping_add_u32(setups_of(forest, from), setup);
+    let own = setups_of(forest, to);
     if above <= own {
         return d.level;
     }
@@ -173,19 +183,19 @@ fn broken_until(p: Pair, setup: bool, d: Descent, x: &[u32], forest: &[u16; PLAC
     let b = p.capture as usize;
     let launched = x[a];
     let captured = x[b];
-    let before = setups_of(forest, a);
-    let after = setups_of(forest, b);
     if setup {
         let asked = wrapping_add_u32(launched, p.greatest);
         let there = wrapping_add_u32(captured, d.low);
-        return until(d, asked, there, wrapping_add_u32(before, 1), after);
+        return until(forest, d, a, b, asked, there, 1);
     }
     until(
+        forest,
         d,
+        b,
+        a,
         captured,
         wrapping_add_u32(launched, p.least),
-        after,
-        before,
+        0,
     )
 }
 
