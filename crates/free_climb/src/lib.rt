@@ -195,7 +195,27 @@ fn close(
     }
 }
 
-// The descent from the common period to the first period, and a trial of where it ends by the parents that it leaves.
+// A trial of the period that a descent came to by the parents that it left; where that is not enough, others.
+fn land(
+    words: &[u32],
+    count: usize,
+    x: &mut [u32],
+    parents: &mut [u16; REGISTERS],
+    lasts: &[u16; REGISTERS],
+    before: &[u16],
+    period: u32,
+) -> u32
+    requires { ⌜ Trial (now words) count period (now x) ⌝ }
+    ensures { λ r. ⌜ Climbed (now (words .entry)) (now (x .exit)) r ⌝ }
+{
+    let told = free_trials::follow(words, count, x, parents, period);
+    if told == period {
+        return period;
+    }
+    close(words, count, x, parents, lasts, before, period)
+}
+
+// The period that a descent from the common one comes to, `low` or longer.
 fn come_down(
     words: &[u32],
     count: usize,
@@ -206,15 +226,10 @@ fn come_down(
     low: u32,
 ) -> u32
     requires { ⌜ Trial (now words) count low (now x) ⌝ }
-    ensures { λ r. ⌜ Climbed (now (words .entry)) (now (x .exit)) r ⌝ }
+    ensures { λ r. ⌜ Trial (now (words .entry)) count r (now (x .exit)) ⌝ }
 {
     let shown = free_descent::descend(words, count, x, parents, lasts, before, low);
-    let period = larger(low, shown);
-    let told = free_trials::follow(words, count, x, parents, period);
-    if told == period {
-        return period;
-    }
-    close(words, count, x, parents, lasts, before, period)
+    larger(low, shown)
 }
 
 // Trials from a period on, and a descent where they do not come to an end.
@@ -233,8 +248,14 @@ fn climb_on(
 {
     match ascend(words, count, x, parents, lasts, before, manner, start) {
         Ascent::Done(period) => period,
-        Ascent::Onward(period) => come_down(words, count, x, parents, lasts, before, period),
-        Ascent::Undecided(period) => come_down(words, count, x, parents, lasts, before, period),
+        Ascent::Onward(low) => {
+            let period = come_down(words, count, x, parents, lasts, before, low);
+            land(words, count, x, parents, lasts, before, period)
+        }
+        Ascent::Undecided(low) => {
+            let period = come_down(words, count, x, parents, lasts, before, low);
+            land(words, count, x, parents, lasts, before, period)
+        }
     }
 }
 
@@ -280,7 +301,10 @@ fn climb_few(
     };
     match ascend(words, count, x, parents, lasts, before, plain, start) {
         Ascent::Done(period) => period,
-        Ascent::Onward(period) => come_down(words, count, x, parents, lasts, before, period),
+        Ascent::Onward(low) => {
+            let period = come_down(words, count, x, parents, lasts, before, low);
+            land(words, count, x, parents, lasts, before, period)
+        }
         Ascent::Undecided(period) => climb_on(
             words,
             count,
