@@ -73,7 +73,7 @@ class Row:
 
     def more(self):
         """Instructions beside those of the planner before, 0 where these are not known."""
-        return self.count / 1e6 / float(BEFORE[self.name]) if self.name in BEFORE else 0
+        return self.count / int(BEFORE[self.name]) if self.name in BEFORE else 0
 
     def faster(self):
         """Against the faster of the two MILP solvers, finished or cut off."""
@@ -81,7 +81,7 @@ class Row:
 
     def cells(self):
         return (self.name, self.n, self.m, self.common, self.free, self.two, million(self.count),
-                BEFORE.get(self.name, ''), million(self.plain_count))
+                million(int(BEFORE[self.name])) if self.name in BEFORE else '', million(self.plain_count))
 
     def line(self):
         return table_row(*self.cells(), million(self.sat_count), f'{self.fewer():.0f}', micro(self.seconds),
@@ -173,7 +173,7 @@ def main():
         'GEOMETRIC': f'{usual.geometric:.0f}', 'FASTER': f'{faster:,.0f}', 'SUMMARY': summary,
         'HARD_MOST': million(hardest.most.count), 'HARD_MOST_LIST': hardest.most.name, 'HARD_MICRO': micro(hardest.most.seconds),
         'HARD_LEAST': f'{hardest.least:.1f}', 'HARD_LEAST_LIST': hardest.worst.name,
-        'MORE': len(more), 'OF': sum(row.more() > 0 for row in every), 'MOST_MORE': f'{most_more.more():.1f}',
+        'MORE': len(more), 'OF': sum(row.more() > 0 for row in every), 'MOST_MORE': f'{most_more.more():.2f}',
         'MOST_MORE_LIST': most_more.name, 'ONES': million(ones.count), 'ONES_PLAIN': million(ones.plain_count),
         'CIRCUITS': table(long_head, [row.line() for row in circuits]), 'SHAPES': table(long_head, [row.line() for row in shapes]),
         'HARD': table((*head, 'plain / ours', 'ours, µs', 'plain'), [row.short_line() for row in hard]),

@@ -20,7 +20,7 @@
  * n is the count of registers (1 to 512), m the count of pairs (0 to 2,048). Times are in picoseconds.
  *
  * No memory is allocated. The most stack that a call was seen to take, in bytes, rounded up (docs/BENCHMARKS.md):
- * read 200, write 100, check 200, free 20,000, split 400, plan 22,000, report 96,000.
+ * read 200, write 100, check 200, free 19,000, split 400, plan 21,000, report 95,000.
  */
 #ifndef DARNERFLAX_H
 #define DARNERFLAX_H
