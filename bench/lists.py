@@ -201,7 +201,7 @@ def shapes():
 
 
 def hard():
-    """Lists made to be slow: for the planner as it was, and, found by bench/climb.c, for the one that followed."""
+    """Lists made to be slow: for the planner as it was, and, found by bench/climb.c, for those that followed."""
     yield 'nested', nested(512, 2048)
     yield 'nested, ascending', ascending(nested(512, 1022), 7)
     yield 'zig', zig(512, 2048)
