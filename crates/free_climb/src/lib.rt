@@ -262,12 +262,14 @@ fn climb_on(
 // Up to so many pairs a round takes less time than what stands behind it; then plain trials of so many rounds come first.
 const FEW_PAIRS: usize = 512;
 
-const ROUNDS: usize = 6;
-
 // How many of them: with few registers a descent is dear beside them; with many, where it takes longest, they are worth another.
 const FEW_REGISTERS: usize = 64;
 
 const MANY_REGISTERS: usize = 256;
+
+fn plain_rounds(n: usize) -> usize {
+    if n < MANY_REGISTERS { 5 } else { 6 }
+}
 
 fn plain_trials(n: usize) -> usize {
     if n < FEW_REGISTERS {
@@ -290,7 +292,7 @@ fn climb_few(
     ensures { λ r. ⌜ Climbed (now (words .entry)) (now (x .exit)) r ⌝ }
 {
     let plain = Manner {
-        rounds: ROUNDS,
+        rounds: plain_rounds(x.len()),
         trials: plain_trials(x.len()),
         kept: false,
     };

@@ -14,6 +14,7 @@ use pair_ends::wide;
 use std::num::wrapping_add_u32;
 use std::num::wrapping_sub_u32;
 use timing::Pair;
+use timing::larger;
 use timing::smaller;
 
 // How far the descent has come: times are told at the period `low`; `level` is the period it has come down to, `size` the count of
@@ -324,30 +325,51 @@ fn set_apart(x: &mut [u32], parents: &mut [u16; REGISTERS], forest: &mut [u16; P
 }
 
 // Then setup alone is broken, of each pair up to its greatest delay less 1.
-fn first_keys(
-    words: &[u32],
-    count: usize,
-    low: u32,
-    key: &mut [u32; REGISTERS],
-    heap: &mut [u16; REGISTERS],
-    place: &mut [u16; REGISTERS],
-) -> usize
+fn first_keys(words: &[u32], count: usize, low: u32, key: &mut [u32; REGISTERS])
     requires { ⌜ IsAccepted (now words) ⌝ }
     requires { ⌜ count ≡ pairCount (now words) ⌝ }
 {
-    let mut size = 0;
     let mut k = 0;
     while k < count {
         let p = delay_list::pair_at(words, k);
-        let until = longest_broken(p.greatest, low);
-        size = raise_key(key, heap, place, size, p.capture as usize, until);
+        let r = (p.capture as usize) % REGISTERS;
+        key[r] = larger(key[r], longest_broken(p.greatest, low));
         k += 1;
     }
-    size
 }
 
 fn longest_broken(greatest: u32, low: u32) -> u32 {
     if greatest > low { greatest - 1 } else { 0 }
+}
+
+// Register r, unless its key is 0, joins the heap.
+fn join(
+    key: &[u32; REGISTERS],
+    heap: &mut [u16; REGISTERS],
+    place: &mut [u16; REGISTERS],
+    size: usize,
+    r: usize,
+) -> usize {
+    if key[r % REGISTERS] == 0 {
+        return size;
+    }
+    register_heap::put(key, heap, place, size, r)
+}
+
+// All registers with a key join it. Its size.
+fn gather(
+    key: &[u32; REGISTERS],
+    heap: &mut [u16; REGISTERS],
+    place: &mut [u16; REGISTERS],
+    n: usize,
+) -> usize {
+    let mut size = 0;
+    let mut r = 0;
+    while r < n {
+        size = join(key, heap, place, size, r);
+        r += 1;
+    }
+    size
 }
 
 // ---- a branch moves
@@ -738,7 +760,8 @@ pub fn descend(
     let mut heap = [0u16; REGISTERS];
     let mut place = [0u16; REGISTERS];
     set_apart(x, parents, &mut forest);
-    let size = first_keys(words, count, low, &mut key, &mut heap, &mut place);
+    first_keys(words, count, low, &mut key);
+    let size = gather(&key, &mut heap, &mut place, x.len());
     let mut d = Descent {
         low: low,
         level: timing::MAX_PERIOD,
