@@ -8,49 +8,49 @@ use Rattle.free_descent.proofs.descend.Statement.{statement}
 use Rattle.free_descent.proofs.descend.Tie as tie
 
 abbrev Inv-loop : tie.InvT-loop
-Inv-loop words count x₀ parents₀ lasts before low forest₀ key₀ heap₀ place₀ size d₀ left₀ x parents forest key heap place d left = 
+Inv-loop words count x₀ parents₀ lasts before low forest₀ key₀ heap₀ place₀ size d₀ left₀ x parents forest key heap place d left =
     length x ≡ length x₀
 
 abbrev μ-loop : tie.MeasureT-loop
 μ-loop words count x₀ parents₀ lasts before low forest₀ key₀ heap₀ place₀ size d₀ left₀ x parents forest key heap place d left = left
 
 first-keys-requires : tie.Need-first-keys-requires Inv-loop μ-loop
-first-keys-requires c κs = 
+first-keys-requires c κs =
     let p = c .before .before .before .before .before .before .before .before .before .before .pre in
     (p .accepted, p .pairsAre)
 
 turn-requires : tie.Need-turn-requires Inv-loop μ-loop
-turn-requires c κs = 
+turn-requires c κs =
     let l = c .before .before .before .before .before .before .before in
     let p = l .before .before .before .before .before .before .before .before .before .before .before .before .before .before .before .before .pre in
     record {
-    accepted = p .accepted;
-    registersAre = l .loop .inv ∙ l .before .before .before .before .before .before .before .before .before .set-apart .kept .0 ∙ p .registersAre;
-    pairsAre = p .pairsAre
+      accepted = p .accepted;
+      registersAre = l .loop .inv ∙ l .before .before .before .before .before .before .before .before .before .set-apart .kept .0 ∙ p .registersAre;
+      pairsAre = p .pairsAre;
     }
 
 loop-less : tie.Need-loop-less Inv-loop μ-loop
-loop-less c = 
+loop-less c =
     let l = c .before .before .before .before .before .before .before .before .before .before in
     omega (arith, c .turns-left .ensures, l .loop-test .taken)
 
 loop-again : tie.Need-loop-again Inv-loop μ-loop
-loop-again c = 
+loop-again c =
     let l = c .before .before .before .before .before .before .before .before .before .before .before in
     c .before .before .before .turn .kept .1 .1 .0 ∙ l .loop .inv
 
 closed-requires : tie.Need-closed-requires Inv-loop μ-loop
-closed-requires c κs = 
+closed-requires c κs =
     let l = c .before .before in
     let p = l .before .before .before .before .before .before .before .before .before .before .before .before .before .before .before .before .pre in
     record {
-    accepted = p .accepted;
-    registersAre = l .loop .inv ∙ l .before .before .before .before .before .before .before .before .before .set-apart .kept .0 ∙ p .registersAre;
-    pairsAre = p .pairsAre
+      accepted = p .accepted;
+      registersAre = l .loop .inv ∙ l .before .before .before .before .before .before .before .before .before .set-apart .kept .0 ∙ p .registersAre;
+      pairsAre = p .pairsAre;
     }
 
 same-length : tie.Need-same-length Inv-loop μ-loop
-same-length c = 
+same-length c =
     let l = c .before .before .before in
     l .loop .inv ∙ l .before .before .before .before .before .before .before .before .before .set-apart .kept .0
 

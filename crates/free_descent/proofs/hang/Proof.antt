@@ -4,19 +4,38 @@ use borrow.Author.Needs.{needs}
 use Rattle.free_descent.proofs.hang.Statement.{statement}
 use Rattle.free_descent.proofs.hang.Tie as tie
 
-ask-around-requires : tie.Need-ask-around-requires
-ask-around-requires c κs =
+ask-below-requires : tie.Need-ask-below-requires
+ask-below-requires c κs =
     let m = c .before .before .before .before .before .before .before .before .before .before .before .before in
     let p = m .before .before .before .before .before .before .before .before .before .before .pre in
-    record { accepted = p .accepted; registersAre = m .move-branch .kept .1 .1 .0 ∙ p .registersAre; pairsAre = p .pairsAre }
+    record {
+      accepted = p .accepted;
+      registersAre = m .move-branch .kept .1 .1 .0 ∙ p .registersAre;
+      pairsAre = p .pairsAre;
+    }
+
+meet-all-requires : tie.Need-meet-all-requires
+meet-all-requires c κs =
+    let m1 = c .before .before .before .before .before .before .before .before .before .before .before .before .before .before .before .before in
+    let m = m1 .before .before in
+    let p = m .before .before .before .before .before .before .before .before .before .before .pre in
+    record {
+      accepted = p .accepted;
+      registersAre = m .move-branch .kept .1 .1 .0 ∙ p .registersAre;
+      pairsAre = p .pairsAre;
+    }
 
 same-length-2 : tie.Need-same-length-2
-same-length-2 c = c .before .before .before .before .before .before .before .before .before .before .before .before .before .before .before .before .before .before .before .before .before .move-branch .kept .1 .1 .0
+same-length-2 c =
+    let m1 = c .before .before .before .before .before .before .before .before .before .before .before .before .before .before .before .before in
+    let m = m1 .before .before .before .before .before .before .before .before .before .before .before in
+    m .move-branch .kept .1 .1 .0
 
 pub hang-spec : {M : Type 1} → statement M
 hang-spec =
     tie.close
     (tie.spec
-    (λ c κs. search needs) (λ c κs. search needs) (λ c κs. search needs) (λ c. search needs) (λ c. search needs)
-    (λ c. search needs) (λ c. search needs) (λ c κs. search needs) ask-around-requires (λ c κs. search needs)
-    (λ c κs. search needs) (λ c κs. search needs) same-length-2 (λ c. search needs))
+    (λ c κs. search needs) (λ c κs. search needs) (λ c κs. search needs) (λ c κs. search needs) (λ c. search needs)
+    (λ c. search needs) (λ c. search needs) (λ c. search needs) (λ c κs. search needs) ask-below-requires
+    meet-all-requires (λ c κs. search needs) (λ c κs. search needs) (λ c κs. search needs) same-length-2
+    (λ c. search needs))

@@ -5,8 +5,8 @@ use mathlib.Core.Path.{_≡_, refl}
 use native.Mathlib.Omega.{arith}
 use lib.ListN.{length, length-set}
 use borrow.Author.Needs.{needs}
-use Rattle.free_descent.proofs.set_apart.Statement.{statement}
-use Rattle.free_descent.proofs.set_apart.Tie as tie
+use Rattle.free_forest.proofs.set_apart.Statement.{statement}
+use Rattle.free_forest.proofs.set_apart.Tie as tie
 
 abbrev Inv-loop : tie.InvT-loop
 Inv-loop x₀ parents₀ forest₀ r₀ x parents forest r = (r ≤ length x) × (length x ≡ length x₀)

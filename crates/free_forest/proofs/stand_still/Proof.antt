@@ -3,8 +3,8 @@
 use Prim.Native.Nat.{_≤_}
 use native.Mathlib.Omega.{arith}
 use borrow.Author.Needs.{needs}
-use Rattle.free_descent.proofs.stand_still.Statement.{statement}
-use Rattle.free_descent.proofs.stand_still.Tie as tie
+use Rattle.free_forest.proofs.stand_still.Statement.{statement}
+use Rattle.free_forest.proofs.stand_still.Tie as tie
 
 abbrev Inv-loop : tie.InvT-loop
 Inv-loop forest₀ first last r₀ left₀ forest r left = left ≤ 512

@@ -4,8 +4,8 @@ use mathlib.Core.Path.{_≡_, refl, _∙_}
 use native.Mathlib.Omega.{arith}
 use lib.ListN.{length}
 use borrow.Author.Needs.{needs}
-use Rattle.free_descent.proofs.move_branch.Statement.{statement}
-use Rattle.free_descent.proofs.move_branch.Tie as tie
+use Rattle.free_forest.proofs.move_branch.Statement.{statement}
+use Rattle.free_forest.proofs.move_branch.Tie as tie
 
 abbrev Inv-loop : tie.InvT-loop
 Inv-loop words count x₀ parents forest₀ r by last₀ left₀ x forest last left = length x ≡ length x₀
