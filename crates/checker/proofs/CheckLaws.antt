@@ -26,7 +26,7 @@ use Rattle.refusals.specs.declared.Fault.the-variants.{None, At}
 use Rattle.list_format.specs.Lists.{registers, pairCount, pairAt, pairs, listChecks, verdict, IsAccepted, IsPair, AcceptedList}
 use Rattle.list_format.specs.declared.Verdict.the-variants as Verdict
 use Rattle.list_format.specs.declared.Verdict.the-variants.{Accepted}
-use Rattle.list_format.proofs.ListLaws.{refused→fault, accepted→none, none→accepted, same, no-difference, each-pair, pair-holds}
+use Rattle.list_format.proofs.ListLaws.{refused→fault, accepted→none, none→accepted, same, no-difference, each-pair, pair-holds, still-accepted}
 use Rattle.checker.specs.Check.{setupAt, holdAt, metAt, firstBroken, brokenRule, found, ruleNumber}
 use Rattle.checker.specs.Check.{someAbove, timingChecks, checkChecks, checking, checkReply, CheckedAs, Passes}
 use Rattle.checker.specs.declared.Rule.{Rule}
@@ -194,7 +194,7 @@ module _ (ws : List ℕ) (t : ℕ) (s : List ℕ) where
       call-ready =
           let c = passed (timingChecks n t s) (sym call ∙ h) in
           let a = accepted→none ws e in
-          record { accepted = a .list .accepted; registersAre = same _ _ (c .1 .1 .0) ∙ a .list .registersAre; pairsAre = a .list .pairsAre }
+          still-accepted (same _ _ (c .1 .1 .0)) (a .list)
 
       pub by-pairs : {r : Checking} → checkReply r ≡ numbers (found ws t s) → CheckedAs ws t s r
       unfolding checking replyOf checkReply

@@ -12,7 +12,6 @@ use free_forest::Link;
 use free_forest::NOBODY;
 use free_forest::PLACES;
 use free_forest::Span;
-use free_rounds::NO_RULE;
 use pair_ends::REGISTERS;
 use timing::larger;
 use timing::smaller;
@@ -327,23 +326,28 @@ fn meet_all(
 
 // ---- turns
 
-// How far the descent has come: `size` is the count of registers in the heap, `height` that of those put off until the register
-// at hand, `at`, has been moved. `rule` closes a cycle there once it is over, if it is one.
+// How far the descent has come: `size` is the count of registers in the heap, 0 once it is over; `height` that of those put off
+// until the register at hand, `at`, has been moved by `rule`. The rule closes a cycle there once it is over, if it is one.
 pub struct Descent {
-    pub low: u32,
     pub level: u32,
     pub size: usize,
     pub height: usize,
     pub at: usize,
-    pub rule: u16,
-    pub over: bool,
+    pub rule: usize,
 }
 
-fn span_of(d: Descent) -> Span {
+fn span_of(low: u32, d: Descent) -> Span {
     Span {
-        low: d.low,
+        low: low,
         level: d.level,
     }
+}
+
+// It is over.
+fn ended(d: Descent) -> Descent {
+    let mut next = d;
+    next.size = 0;
+    next
 }
 
 // The register put off last is at hand, or nobody.
@@ -368,34 +372,25 @@ fn put_off(d: Descent, forest: &mut [u16; PLACES], r: usize) -> Descent {
     next
 }
 
-// The register at hand is moved below the one that the rule starts from, unless that hangs below it: then the rule closes a cycle.
-fn hang(
+// All rules that start from the branch of register r to `last`, and those that end at r.
+fn meet_branch(
     words: &[u32],
     count: usize,
-    x: &mut [u32],
-    parents: &mut [u16; REGISTERS],
-    forest: &mut [u16; PLACES],
+    x: &[u32],
+    forest: &[u16; PLACES],
     key: &mut [u32; REGISTERS],
     heap: &mut [u16; REGISTERS],
     place: &mut [u16; REGISTERS],
     lasts: &[u16; REGISTERS],
     before: &[u16],
+    low: u32,
     d: Descent,
-    l: Link,
-) -> Descent
+    r: usize,
+    last: usize,
+) -> Met
     requires { ⌜ AcceptedList (now words) (length (now x)) count ⌝ }
 {
-    let mut next = d;
-    let r = d.at;
-    let s = span_of(d);
-    let by = free_forest::distance_by(l, forest);
-    let last = free_forest::move_branch(words, count, x, parents, forest, r, by);
-    if free_forest::moves(forest, l.from) {
-        next.over = true;
-        return next;
-    }
-    parents[r % REGISTERS] = d.rule;
-    free_forest::put_below(forest, r, last, l.from);
+    let s = span_of(low, d);
     let size = ask_below(
         words,
         count,
@@ -411,7 +406,7 @@ fn hang(
         r,
         last,
     );
-    let met = meet_all(
+    meet_all(
         words,
         count,
         x,
@@ -424,9 +419,53 @@ fn hang(
         s,
         size,
         r,
+    )
+}
+
+// The register at hand is moved below the one that the rule starts from, unless that hangs below it: then the rule closes a cycle.
+fn hang(
+    words: &[u32],
+    count: usize,
+    x: &mut [u32],
+    parents: &mut [u16; REGISTERS],
+    forest: &mut [u16; PLACES],
+    key: &mut [u32; REGISTERS],
+    heap: &mut [u16; REGISTERS],
+    place: &mut [u16; REGISTERS],
+    lasts: &[u16; REGISTERS],
+    before: &[u16],
+    low: u32,
+    d: Descent,
+    l: Link,
+) -> Descent
+    requires { ⌜ AcceptedList (now words) (length (now x)) count ⌝ }
+{
+    let r = d.at;
+    let by = free_forest::distance_by(l, forest);
+    let last = free_forest::move_branch(words, count, x, parents, forest, r, by);
+    if free_forest::moves(forest, l.from) {
+        return ended(d);
+    }
+    parents[r % REGISTERS] = (d.rule % 0x1000) as u16;
+    free_forest::put_below(forest, r, last, l.from);
+    let met = meet_branch(
+        words,
+        count,
+        x,
+        forest,
+        key,
+        heap,
+        place,
+        lasts,
+        before,
+        low,
+        d,
+        r,
+        last,
     );
     free_forest::stand_still(forest, r, last);
     lower_key(key, heap, place, met.size, r, met.worst);
+    let mut next = d;
     next.size = met.size;
     resumed(next, forest)
 }
@@ -438,13 +477,10 @@ fn taken(d: Descent, key: &[u32; REGISTERS], heap: &[u16; REGISTERS]) -> Descent
     }
     let mut next = d;
     let r = register_heap::register_at(heap, 0);
-    if d.size > 0 {
-        if key[r % REGISTERS] > 0 {
-            next.at = r;
-            return next;
-        }
+    if key[r % REGISTERS] == 0 {
+        return ended(d);
     }
-    next.over = true;
+    next.at = r;
     next
 }
 
@@ -477,25 +513,27 @@ fn turn(
     place: &mut [u16; REGISTERS],
     lasts: &[u16; REGISTERS],
     before: &[u16],
+    low: u32,
     d: Descent,
 ) -> Descent
     requires { ⌜ AcceptedList (now words) (length (now x)) count ⌝ }
 {
     let mut next = taken(d, key, heap);
-    if next.over {
+    if next.size == 0 {
         return next;
     }
     let r = next.at;
+    let s = span_of(low, d);
     let own = key[r % REGISTERS];
-    let l = free_forest::link_of(words, count, x, rule_of(own), d.low);
-    let until = free_forest::broken_until(l, forest, span_of(d));
+    next.rule = rule_of(own);
+    let l = free_forest::link_of(words, count, x, next.rule, low);
+    let until = free_forest::broken_until(l, forest, s);
     if until < due(d, own, d.at >= REGISTERS) {
-        let worst = worst_into(words, count, x, forest, lasts, before, span_of(d), r);
+        let worst = worst_into(words, count, x, forest, lasts, before, s, r);
         lower_key(key, heap, place, d.size, r, worst);
         return resumed(next, forest);
     }
     next.level = smaller(d.level, until);
-    next.rule = (own % RULES) as u16;
     if moves_first(next, key, l) {
         return put_off(next, forest, l.from);
     }
@@ -510,6 +548,7 @@ fn turn(
         place,
         lasts,
         before,
+        low,
         next,
         l,
     )
@@ -528,7 +567,7 @@ fn closed(words: &[u32], count: usize, n: usize, parents: &mut [u16; REGISTERS],
         return NOTHING;
     }
     let own = parents[r % REGISTERS];
-    parents[r % REGISTERS] = d.rule;
+    parents[r % REGISTERS] = (d.rule % 0x1000) as u16;
     let longer = free_cycles::around(words, count, n, parents, r as u32);
     parents[r % REGISTERS] = own;
     longer
@@ -541,7 +580,7 @@ const TURNS: usize = 64 * REGISTERS;
 fn turns_left(d: Descent, left: usize) -> usize
     ensures { λ r. ⌜ r ≤ left ⌝ }
 {
-    if d.over { 0 } else { left }
+    if d.size == 0 { 0 } else { left }
 }
 
 // The descent to the period `low`. What a cycle that was met on the way asks for, else 0; the parents are left as they are at the
@@ -566,13 +605,11 @@ pub fn descend(
     first_keys(words, count, low, &mut key);
     let size = gather(&key, &mut heap, &mut place, x.len());
     let mut d = Descent {
-        low: low,
         level: timing::MAX_PERIOD,
         size: size,
         height: 0,
         at: REGISTERS,
-        rule: NO_RULE,
-        over: false,
+        rule: 0,
     };
     let mut left = TURNS;
     while left > 0 {
@@ -587,6 +624,7 @@ pub fn descend(
             &mut place,
             lasts,
             before,
+            low,
             d,
         );
         left = turns_left(d, left - 1);

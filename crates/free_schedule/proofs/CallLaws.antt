@@ -15,7 +15,7 @@ use Rattle.refusals.specs.Reply.{refused, done, replyOf, bufferAfter}
 use Rattle.refusals.proofs.ReplyLaws.{one-fails, one-passes, first-refused, then-refused, then-done}
 use Rattle.list_format.specs.Lists.{registers, pairs, listChecks, verdict, AcceptedList}
 use Rattle.list_format.specs.declared.Verdict.the-variants as Verdict
-use Rattle.list_format.proofs.ListLaws.{refused→fault, accepted→none, pairs-in-range, pairs-within, few-registers}
+use Rattle.list_format.proofs.ListLaws.{refused→fault, accepted→none, pairs-in-range, pairs-within, few-registers, still-accepted}
 use Rattle.free_laws.specs.Free.{common, freePeriod, freeSchedule}
 use Rattle.free_laws.specs.Unbeaten.{UnbeatenFree}
 use Rattle.free_laws.proofs.FreeLaws.{common-limit, period-common, free-capped}
@@ -58,8 +58,7 @@ module _ {ws : List ℕ} {n count : ℕ} {was : List ℕ} (r : Roomy ws n count 
   lent-size = sym (length-take-le n was (r .room))
 
   pub lent-ready : AcceptedList ws (length (take n was)) count
-  lent-ready =
-      record { accepted = r .list .accepted; registersAre = sym lent-size ∙ r .list .registersAre; pairsAre = r .list .pairsAre }
+  lent-ready = still-accepted (sym lent-size) (r .list)
 
   -- what was lent comes back filled
   pub lent-back : {x : List ℕ} {t : ℕ} → Climbed ws x t → FreeIn ws was (x ++ drop n was) t

@@ -13,7 +13,7 @@ use lib.Seq.{drop-length}
 use Rattle.timing.specs.Rules.{admissible, Each, InRange}
 use Rattle.timing.specs.Limits.{maxPeriod, maxTiming}
 use Rattle.list_format.specs.Lists.{registers, pairs, IsAccepted, AcceptedList}
-use Rattle.list_format.proofs.ListLaws.{few-registers, pairs-in-range, pairs-within}
+use Rattle.list_format.proofs.ListLaws.{few-registers, pairs-in-range, pairs-within, still-accepted}
 use Rattle.buffers.specs.Over.{zeros}
 use Rattle.free_laws.specs.Constraint.{Meets, constraints, Below, Bound}
 use Rattle.free_laws.specs.Raise.{Capped, Risen, RoundTo}
@@ -37,7 +37,7 @@ module _ {ws : List ℕ} {n count t : ℕ} {x : List ℕ} (a : AcceptedList ws n
   pub zeros-raise : Raising ws count t x
   zeros-raise =
       record {
-        list = record { accepted = a .accepted; registersAre = ap length e ∙ length-replicate n 0 ∙ a .registersAre; pairsAre = a .pairsAre };
+        list = still-accepted (ap length e ∙ length-replicate n 0) a;
         capped = rw e (zeros-below n (λ r. maxTiming));
         period = h;
       }

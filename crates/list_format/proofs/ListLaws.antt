@@ -72,6 +72,10 @@ module _ (ws : List ℕ) where
   unfolding verdict
   accepted→none a = judged-accepted (firstFault (listChecks ws)) refl a
 
+-- it stays so with a count of registers that is the same number
+pub still-accepted : {ws : List ℕ} {n m k : ℕ} → k ≡ n → AcceptedList ws n m → AcceptedList ws k m
+still-accepted e a = record { accepted = a .accepted; registersAre = e ∙ a .registersAre; pairsAre = a .pairsAre }
+
 -- ---- the facts behind the checks
 
 -- the kinds of the three words of a pair

@@ -22,7 +22,7 @@ use Rattle.refusals.proofs.ReplyLaws.{answered-done, first-refused, then-refuse
 use Rattle.list_format.specs.Lists.{registers, pairCount, pairs, listChecks, verdict, AcceptedList}
 use Rattle.list_format.specs.declared.Verdict.the-variants.{Accepted}
 use Rattle.list_format.specs.declared.Verdict.the-variants.{Refused as ListRefused}
-use Rattle.list_format.proofs.ListLaws.{refused→fault, accepted→none, pairs-in-range}
+use Rattle.list_format.proofs.ListLaws.{refused→fault, accepted→none, pairs-in-range, still-accepted}
 use Rattle.free_laws.specs.Free.{common, freePeriod, freeSchedule}
 use Rattle.free_laws.proofs.FreeLaws.{period-pos}
 use Rattle.free_laws.specs.Constraint.{Bound}
@@ -109,7 +109,7 @@ module _ {ws : List ℕ} {n m room spare : ℕ} (a : PlanAllowed ws n m room spa
     lent-size = length-take-le n scratch (omega (arith, a .scratches))
 
     pub lent-ready : AcceptedList ws (length (take n scratch)) m
-    lent-ready = record { accepted = a .list .accepted; registersAre = lent-size ∙ a .list .registersAre; pairsAre = a .list .pairsAre }
+    lent-ready = still-accepted lent-size (a .list)
 
   -- ---- the two-timing period
 

@@ -17,7 +17,7 @@ use Rattle.buffers.proofs.RunLaws.{run-length, run-at}
 use Rattle.timing.specs.declared.Pair.{Pair}
 use Rattle.timing.specs.Limits.{maxPeriod}
 use Rattle.list_format.specs.Lists.{registers, pairCount, pairAt, pairsFrom, pairs, placeOf, IsPair, AcceptedList}
-use Rattle.list_format.proofs.ListLaws.{each-pair, pairs-within, pair-holds, each-place}
+use Rattle.list_format.proofs.ListLaws.{each-pair, pairs-within, pair-holds, each-place, still-accepted}
 use Rattle.free_laws.specs.Free.{common}
 use Rattle.free_laws.specs.Constraint.{Bound}
 use Rattle.free_laws.proofs.Bound.{bound-common}
@@ -39,7 +39,7 @@ module _ {ws : List ℕ} {count top : ℕ} {W : List ℕ} (r : Reaching ws count
   pub reaching-then : {D : List ℕ → Type 0} {W′ : List ℕ} {o : Bool} → ReachStep top (pairs ws) D W W′ o → Reaching ws count top W′
   reaching-then h =
       record {
-        list = record { accepted = r .list .accepted; registersAre = h .size ∙ r .list .registersAre; pairsAre = r .list .pairsAre };
+        list = still-accepted (h .size) (r .list);
         topIs = r .topIs;
         reaches = h .reaches;
       }
@@ -177,11 +177,7 @@ module _ {ws : List ℕ} {count top : ℕ} (floor : ℕ) (W : List ℕ) (list : 
   pub reaching-start : {W′ : List ℕ} → W′ ≡ replicate (length W) floor ++ drop (length W) W → Reaching ws count top W′
   reaching-start {W′} levelled =
       record {
-        list = record {
-          accepted = list .accepted;
-          registersAre = ap length level ∙ length-replicate (length W) floor ∙ list .registersAre;
-          pairsAre = list .pairsAre;
-        };
+        list = still-accepted (ap length level ∙ length-replicate (length W) floor) list;
         topIs = e;
         reaches = rw level (reaches-level top (pairs ws) (length W) floor (omega (arith, e, bound-common b)) b);
       }

@@ -63,7 +63,8 @@ same-length-3 c =
 returns-3 : tie.Need-returns-3 Inv-loop μ-loop
 returns-3 c =
     let l = c .before .before in
-    ascended-settled (l .before .before .before .before .before .before .before .before .before .pre .list) (l .loop .inv) (c .if2 .left) (c .before .loop-test .left)
+    let p = l .before .before .before .before .before .before .before .before .before .pre in
+    ascended-settled (p .list) (l .loop .inv) (c .if2 .left) (c .before .loop-test .left)
 
 pub ascend-spec : {M : Type 1} → statement M
 ascend-spec =

@@ -7,12 +7,14 @@ use Rattle.free_climb.proofs.climb_on.Tie as tie
 come-down-requires : tie.Need-come-down-requires
 come-down-requires c κs =
     let a = c .before .before .before .before .before .before .before in
-    trial-onward (a .before .before .before .before .before .before .pre) (a .ascend .kept .1 .1 .0) (a .ascend .ensures) (c .before .before .before .low .given .1)
+    let p = a .before .before .before .before .before .before .pre in
+    trial-onward p (a .ascend .kept .1 .1 .0) (a .ascend .ensures) (c .before .before .before .low .given .1)
 
 come-down-requires-2 : tie.Need-come-down-requires-2
 come-down-requires-2 c κs =
     let a = c .before .before .before .before .before .before .before in
-    trial-undecided (a .before .before .before .before .before .before .pre) (a .ascend .kept .1 .1 .0) (a .ascend .ensures) (c .before .before .before .low2 .given .1)
+    let p = a .before .before .before .before .before .before .pre in
+    trial-undecided p (a .ascend .kept .1 .1 .0) (a .ascend .ensures) (c .before .before .before .low2 .given .1)
 
 returns : tie.Need-returns
 returns c = c .before .before .before .before .before .ascend .ensures .settled _ (c .before .period .given .1)

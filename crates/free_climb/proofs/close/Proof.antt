@@ -7,12 +7,14 @@ use Rattle.free_climb.proofs.close.Tie as tie
 finish-requires : tie.Need-finish-requires
 finish-requires c κs =
     let a = c .before .before .before .before .before .before in
-    trial-onward (a .before .before .before .before .before .before .pre) (a .ascend .kept .1 .1 .0) (a .ascend .ensures) (c .before .before .period2 .given .1)
+    let p = a .before .before .before .before .before .before .pre in
+    trial-onward p (a .ascend .kept .1 .1 .0) (a .ascend .ensures) (c .before .before .period2 .given .1)
 
 finish-requires-2 : tie.Need-finish-requires-2
 finish-requires-2 c κs =
     let a = c .before .before .before .before .before .before in
-    trial-undecided (a .before .before .before .before .before .before .pre) (a .ascend .kept .1 .1 .0) (a .ascend .ensures) (c .before .before .period3 .given .1)
+    let p = a .before .before .before .before .before .before .pre in
+    trial-undecided p (a .ascend .kept .1 .1 .0) (a .ascend .ensures) (c .before .before .period3 .given .1)
 
 returns : tie.Need-returns
 returns c = c .before .before .before .before .before .ascend .ensures .settled _ (c .before .period .given .1)

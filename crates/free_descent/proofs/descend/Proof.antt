@@ -3,6 +3,7 @@
 use mathlib.Core.Path.{_≡_, refl, _∙_}
 use native.Mathlib.Omega.{arith}
 use lib.ListN.{length}
+use Rattle.list_format.proofs.ListLaws.{still-accepted}
 use borrow.Author.Needs.{needs}
 use Rattle.free_descent.proofs.descend.Statement.{statement}
 use Rattle.free_descent.proofs.descend.Tie as tie
@@ -22,12 +23,9 @@ first-keys-requires c κs =
 turn-requires : tie.Need-turn-requires Inv-loop μ-loop
 turn-requires c κs =
     let l = c .before .before .before .before .before .before .before in
-    let p = l .before .before .before .before .before .before .before .before .before .before .before .before .before .before .before .before .pre in
-    record {
-      accepted = p .accepted;
-      registersAre = l .loop .inv ∙ l .before .before .before .before .before .before .before .before .before .set-apart .kept .0 ∙ p .registersAre;
-      pairsAre = p .pairsAre;
-    }
+    let p′ = l .before .before .before .before .before .before .before .before .before .before .before .before .before .before in
+    let p = p′ .before .before .pre in
+    still-accepted (l .loop .inv ∙ l .before .before .before .before .before .before .before .before .before .set-apart .kept .0) p
 
 loop-less : tie.Need-loop-less Inv-loop μ-loop
 loop-less c =
@@ -42,12 +40,9 @@ loop-again c =
 closed-requires : tie.Need-closed-requires Inv-loop μ-loop
 closed-requires c κs =
     let l = c .before .before in
-    let p = l .before .before .before .before .before .before .before .before .before .before .before .before .before .before .before .before .pre in
-    record {
-      accepted = p .accepted;
-      registersAre = l .loop .inv ∙ l .before .before .before .before .before .before .before .before .before .set-apart .kept .0 ∙ p .registersAre;
-      pairsAre = p .pairsAre;
-    }
+    let p′ = l .before .before .before .before .before .before .before .before .before .before .before .before .before .before in
+    let p = p′ .before .before .pre in
+    still-accepted (l .loop .inv ∙ l .before .before .before .before .before .before .before .before .before .set-apart .kept .0) p
 
 same-length : tie.Need-same-length Inv-loop μ-loop
 same-length c =

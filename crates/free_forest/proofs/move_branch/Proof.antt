@@ -17,16 +17,22 @@ loop-holds : tie.Need-loop-holds Inv-loop μ-loop
 loop-holds c = refl
 
 same-length : tie.Need-same-length Inv-loop μ-loop
-same-length c = c .before .before .before .before .loop .inv ∙ c .before .before .before .before .before .before .before .shift .kept .0
+same-length c =
+    let l = c .before .before .before .before in
+    l .loop .inv ∙ l .before .before .before .shift .kept .0
 
 same-length-2 : tie.Need-same-length-2 Inv-loop μ-loop
-same-length-2 c = c .before .before .before .before .before .before .before .before .loop .inv ∙ c .before .before .before .before .before .before .before .before .before .before .before .shift .kept .0
+same-length-2 c =
+    let l = c .before .before .before .before .before .before .before .before in
+    l .loop .inv ∙ l .before .before .before .shift .kept .0
 
 loop-less : tie.Need-loop-less Inv-loop μ-loop
 loop-less c = omega (arith, c .before .before .before .before .before .before .before .before .before .before .before .before .loop-test .taken)
 
 loop-again : tie.Need-loop-again Inv-loop μ-loop
-loop-again c = c .before .before .shift2 .kept .0 ∙ c .before .before .before .before .before .before .before .before .before .before .before .before .before .loop .inv
+loop-again c =
+    let s = c .before .before in
+    s .shift2 .kept .0 ∙ s .before .before .before .before .before .before .before .before .before .before .before .loop .inv
 
 same-length-3 : tie.Need-same-length-3 Inv-loop μ-loop
 same-length-3 c = c .before .loop .inv ∙ c .before .before .before .before .shift .kept .0

@@ -53,10 +53,13 @@ returns-2 : tie.Need-returns-2 Inv-loop μ-loop
 returns-2 c =
     let d = c .before .before .before in
     let q = d .before .before .before .before .before .before .before .before .before .before in
-    (risen-then (risen-then (q .before .before .before .before .before .before .before .loop .inv) (q .stretch .ensures)) (d .carry .ensures .0), d .carry .ensures .1)
+    let l = q .before .before .before .before .before .before .before in
+    (risen-then (risen-then (l .loop .inv) (q .stretch .ensures)) (d .carry .ensures .0), d .carry .ensures .1)
 
 loop-less : tie.Need-loop-less Inv-loop μ-loop
-loop-less c = omega (arith, c .before .before .before .before .before .before .before .before .before .before .before .before .before .before .before .before .before .before .before .loop-test .taken)
+loop-less c =
+    let l = c .before .before .before .before .before .before .before .before .before .before in
+    omega (arith, l .before .before .before .before .before .before .before .before .before .loop-test .taken)
 
 loop-again : tie.Need-loop-again Inv-loop μ-loop
 loop-again c =

@@ -5,7 +5,9 @@ use Rattle.free_schedule.proofs.answer_by.Statement.{statement}
 use Rattle.free_schedule.proofs.answer_by.Tie as tie
 
 returns : tie.Need-returns
-returns c = settled (c .before .before .before .before .before .before .before .before .before .before .before .before .before .before .before .pre) (c .before .before .before .before .before .before .common .ensures) (c .before .before .fill .ensures)
+returns c =
+    let m = c .before .before .before .before .before .before in
+    settled (m .before .before .before .before .before .before .before .before .before .pre) (m .common .ensures) (c .before .before .fill .ensures)
 
 pub answer-by-spec : {M : Type 1} → statement M
 answer-by-spec =
