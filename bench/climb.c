@@ -1,6 +1,7 @@
 /* Climbs to slow lists: climb time|ratio FILE SECONDS SEED OUT. Starts from the list in FILE and changes it at random for so many
- * seconds; a change is kept if the plan then takes no less time (time), or no less of plain's time (ratio). Writes the list it has
- * come to to OUT. Prints the nanoseconds of the plan (time), or ours / plain (ratio), at the start and at the end.
+ * seconds; a change is kept if the plan then takes no less time (time), or no less of plain's time (ratio). In ratio at least half
+ * the common period is kept: without that it comes to lists with all delays 0 and 1, where plain has nothing to seek. Writes the
+ * list it has come to to OUT. Prints the nanoseconds of the plan (time), or ours / plain (ratio), at the start and at the end.
  *
  *     g++ -O3 -c bench/plain.cpp -o target/bench/plain.o
  *     gcc -O3 -Wall -Wextra -Ic bench/climb.c target/bench/plain.o target/staticlib/libplanner_c.a -lstdc++ -o target/bench/climb
@@ -83,6 +84,13 @@ static double plain(size_t count) {
     uint64_t numbers[4], start = now();
     plain_plan(words, count, answer, numbers);
     return (double)(now() - start);
+}
+
+static uint32_t common(const struct net *net) {
+    uint32_t most = 1;
+    for (uint32_t k = 0; k < net->m; k++)
+        most = net->pairs[k].greatest > most ? net->pairs[k].greatest : most;
+    return most;
 }
 
 static double cost(const struct net *net, int by_ratio, int calls) {
@@ -276,9 +284,12 @@ int main(int argc, char **argv) {
 
     double most = cost(&best, by_ratio, 8), start = most;
     uint64_t tries = 0, kept = 0;
+    uint32_t least = by_ratio ? common(&best) / 2 : 1;
     for (; best.m > 0 && now() < end; tries++) {
         next = best;
         change(&next);
+        if (common(&next) < least)
+            continue;
         double found = cost(&next, by_ratio, 1);
         if (found >= most) /* else more calls would not make it more */
             found = cost(&next, by_ratio, 8);

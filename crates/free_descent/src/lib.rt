@@ -326,9 +326,11 @@ fn meet_all(
 
 // ---- turns
 
-// How far the descent has come: `size` is the count of registers in the heap, 0 once it is over; `height` that of those put off
-// until the register at hand, `at`, has been moved by `rule`. The rule closes a cycle there once it is over, if it is one.
+// How far the descent has come: times are told at the period `low`, and `level` is the one it has come down to; `size` is the count
+// of registers in the heap, 0 once it is over, and `height` that of those put off until the register at hand, `at`, has been moved
+// by `rule`. Once it is over the rule closes a cycle there, if one was met.
 pub struct Descent {
+    pub low: u32,
     pub level: u32,
     pub size: usize,
     pub height: usize,
@@ -336,9 +338,9 @@ pub struct Descent {
     pub rule: usize,
 }
 
-fn span_of(low: u32, d: Descent) -> Span {
+fn span_of(d: Descent) -> Span {
     Span {
-        low: low,
+        low: d.low,
         level: d.level,
     }
 }
@@ -383,14 +385,13 @@ fn meet_branch(
     place: &mut [u16; REGISTERS],
     lasts: &[u16; REGISTERS],
     before: &[u16],
-    low: u32,
     d: Descent,
     r: usize,
     last: usize,
 ) -> Met
     requires { ⌜ AcceptedList (now words) (length (now x)) count ⌝ }
 {
-    let s = span_of(low, d);
+    let s = span_of(d);
     let size = ask_below(
         words,
         count,
@@ -434,7 +435,6 @@ fn hang(
     place: &mut [u16; REGISTERS],
     lasts: &[u16; REGISTERS],
     before: &[u16],
-    low: u32,
     d: Descent,
     l: Link,
 ) -> Descent
@@ -458,7 +458,6 @@ fn hang(
         place,
         lasts,
         before,
-        low,
         d,
         r,
         last,
@@ -513,7 +512,6 @@ fn turn(
     place: &mut [u16; REGISTERS],
     lasts: &[u16; REGISTERS],
     before: &[u16],
-    low: u32,
     d: Descent,
 ) -> Descent
     requires { ⌜ AcceptedList (now words) (length (now x)) count ⌝ }
@@ -523,10 +521,10 @@ fn turn(
         return next;
     }
     let r = next.at;
-    let s = span_of(low, d);
+    let s = span_of(d);
     let own = key[r % REGISTERS];
     next.rule = rule_of(own);
-    let l = free_forest::link_of(words, count, x, next.rule, low);
+    let l = free_forest::link_of(words, count, x, next.rule, d.low);
     let until = free_forest::broken_until(l, forest, s);
     if until < due(d, own, d.at >= REGISTERS) {
         let worst = worst_into(words, count, x, forest, lasts, before, s, r);
@@ -548,7 +546,6 @@ fn turn(
         place,
         lasts,
         before,
-        low,
         next,
         l,
     )
@@ -605,6 +602,7 @@ pub fn descend(
     first_keys(words, count, low, &mut key);
     let size = gather(&key, &mut heap, &mut place, x.len());
     let mut d = Descent {
+        low: low,
         level: timing::MAX_PERIOD,
         size: size,
         height: 0,
@@ -624,7 +622,6 @@ pub fn descend(
             &mut place,
             lasts,
             before,
-            low,
             d,
         );
         left = turns_left(d, left - 1);
