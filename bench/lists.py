@@ -210,6 +210,11 @@ def hard():
         yield file.stem.replace('-', ' '), decode(file.read_bytes())
 
 
+def nothing_to_seek():
+    """Where the climb comes to if it may shorten the common period: delays of 0 and 1, every period 1."""
+    return decode(FOUND.with_name('nothing-to-seek.list').read_bytes())
+
+
 def growth():
     """More pairs for 512 registers, and more registers for 2,048 pairs."""
     by_pairs = [(m, drawn(512, m, 60, 99, 9)) for m in (64, 128, 256, 512, 1024, 2048)]

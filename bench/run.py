@@ -117,13 +117,14 @@ class Summary:
         self.least = min(fewer)
         self.mean = sum(fewer) / len(fewer)
         self.geometric = math.exp(sum(map(math.log, fewer)) / len(fewer))
+        self.share = sum(1 / times for times in fewer) / len(fewer)
         self.total = sum(row.count for row in rows) / sum(row.plain_count for row in rows)
         self.most = max(rows, key=lambda row: row.count)
         self.worst = min(rows, key=Row.fewer)
 
     def line(self, name):
         return table_row(name, f'{self.least:.1f} ({self.worst.name})', f'{self.mean:.0f}', f'{self.geometric:.0f}',
-                         f'{1 / self.least:.4f}', f'{self.total:.4f}', f'{million(self.most.count)} ({self.most.name})')
+                         f'{1 / self.least:.4f}', f'{self.share:.4f}', f'{self.total:.4f}', f'{million(self.most.count)} ({self.most.name})')
 
 
 def growth(unit, rows):
@@ -160,11 +161,12 @@ def main():
     more = [row for row in every if row.more() > 1]
     most_more = max(every, key=Row.more)
     ones = Row('delays of 0 and 1', lists.ones(512, 2048, 14))
+    idle = Row('nothing to seek', lists.nothing_to_seek())
     faster = min(row.faster() for row in circuits + shapes if row.n >= 100)
     usual, hardest = Summary(circuits + shapes), Summary(hard)
     head = ('list', 'registers', 'pairs', 'common', 'free', 'two', 'ours, million instructions', 'before', 'plain')
     long_head = (*head, 'SAT', 'plain / ours', 'ours, µs', 'plain', 'SAT', 'cbc, s', 'glpsol, s', 'MILP / ours')
-    summary = table(('lists', 'plain / ours, least', 'mean', 'geometric mean', 'ours / plain, most', 'of the totals',
+    summary = table(('lists', 'plain / ours, least', 'mean', 'geometric mean', 'ours / plain, most', 'mean', 'of the totals',
                      'ours, most million instructions'),
                     [usual.line('circuits and shapes'), hardest.line('hard lists'), Summary(every).line('all, growth too')])
     text = pathlib.Path(__file__).with_name('text.md').read_text()
@@ -175,6 +177,7 @@ def main():
         'HARD_LEAST': f'{hardest.least:.1f}', 'HARD_LEAST_LIST': hardest.worst.name,
         'MORE': len(more), 'OF': sum(row.more() > 0 for row in every), 'MOST_MORE': f'{most_more.more():.2f}',
         'MOST_MORE_LIST': most_more.name, 'ONES': million(ones.count), 'ONES_PLAIN': million(ones.plain_count),
+        'IDLE': million(idle.count), 'IDLE_PLAIN': million(idle.plain_count), 'IDLE_N': idle.n, 'IDLE_M': idle.m,
         'CIRCUITS': table(long_head, [row.line() for row in circuits]), 'SHAPES': table(long_head, [row.line() for row in shapes]),
         'HARD': table((*head, 'plain / ours', 'ours, µs', 'plain'), [row.short_line() for row in hard]),
         'BY_PAIRS': growth('pairs', by_pairs), 'BY_REGISTERS': growth('registers', by_registers), 'STACK': stack(every),
