@@ -13,8 +13,8 @@ use free_forest::NOBODY;
 use free_forest::PLACES;
 use free_forest::Span;
 use pair_ends::REGISTERS;
+use pair_ends::wide;
 use timing::larger;
-use timing::smaller;
 
 // ---- keys: up to which period a register has a broken rule into it, or longer, and the rule
 
@@ -37,35 +37,84 @@ fn rule_of(key: u32) -> usize {
     (key % RULES) as usize
 }
 
-// Register r has at least that key. The size of the heap.
-fn raise_key(
-    key: &mut [u32; REGISTERS],
-    heap: &mut [u16; REGISTERS],
-    place: &mut [u16; REGISTERS],
-    size: usize,
-    r: usize,
-    to: u32,
-) -> usize {
+// So many registers stand together; of them the one with the largest key is known.
+const TOGETHER: usize = 16;
+
+const GROUPS: usize = REGISTERS / TOGETHER;
+
+// How many groups n registers make.
+fn groups(n: usize) -> usize {
+    if n < REGISTERS {
+        n / TOGETHER + 1
+    } else {
+        GROUPS
+    }
+}
+
+fn key_at(key: &[u32; REGISTERS], r: usize) -> u32 {
+    key[r % REGISTERS]
+}
+
+// The register of group g with the largest key.
+fn top_of(key: &[u32; REGISTERS], g: usize) -> u16 {
+    let first = (g % GROUPS) * TOGETHER;
+    let mut top = first;
+    let mut i = 1;
+    while i < TOGETHER {
+        if key_at(key, top) < key_at(key, first + i) {
+            top = first + i;
+        }
+        i += 1;
+    }
+    (top % REGISTERS) as u16
+}
+
+// Those of all groups of n registers.
+fn find_tops(key: &[u32; REGISTERS], tops: &mut [u16; GROUPS], n: usize) {
+    let count = groups(n);
+    let mut g = 0;
+    while g < count {
+        tops[g % GROUPS] = top_of(key, g);
+        g += 1;
+    }
+}
+
+// Register r has at least that key.
+fn raise_key(key: &mut [u32; REGISTERS], tops: &mut [u16; GROUPS], r: usize, to: u32) {
     let q = r % REGISTERS;
     if to <= key[q] {
-        return size;
+        return;
     }
     key[q] = to;
-    register_heap::put(key, heap, place, size, q)
+    let g = q / TOGETHER;
+    if key_at(key, wide(tops[g])) < to {
+        tops[g] = q as u16;
+    }
 }
 
 // The key of register r is lowered.
-fn lower_key(
-    key: &mut [u32; REGISTERS],
-    heap: &mut [u16; REGISTERS],
-    place: &mut [u16; REGISTERS],
-    size: usize,
-    r: usize,
-    to: u32,
-) {
+fn lower_key(key: &mut [u32; REGISTERS], tops: &mut [u16; GROUPS], r: usize, to: u32) {
     let q = r % REGISTERS;
     key[q] = to;
-    register_heap::lower(key, heap, place, size, q);
+    let g = q / TOGETHER;
+    if wide(tops[g]) == q {
+        tops[g] = top_of(key, g);
+    }
+}
+
+// Of n registers the one with the largest key.
+fn largest(key: &[u32; REGISTERS], tops: &[u16; GROUPS], n: usize) -> usize {
+    let count = groups(n);
+    let mut top = wide(tops[0]);
+    let mut g = 1;
+    while g < count {
+        let r = wide(tops[g % GROUPS]);
+        if key_at(key, top) < key_at(key, r) {
+            top = r;
+        }
+        g += 1;
+    }
+    top
 }
 
 // With all times 0 setup alone is broken, of each pair up to its greatest delay less 1.
@@ -87,36 +136,6 @@ fn first_keys(words: &[u32], count: usize, low: u32, key: &mut [u32; REGISTERS])
         key[r] = larger(key[r], first_key(p.greatest, low, k));
         k += 1;
     }
-}
-
-// Register r, unless its key is 0, joins the heap. Its size.
-fn join(
-    key: &[u32; REGISTERS],
-    heap: &mut [u16; REGISTERS],
-    place: &mut [u16; REGISTERS],
-    size: usize,
-    r: usize,
-) -> usize {
-    if key[r % REGISTERS] == 0 {
-        return size;
-    }
-    register_heap::put(key, heap, place, size, r)
-}
-
-// All registers with a key join it. Its size.
-fn gather(
-    key: &[u32; REGISTERS],
-    heap: &mut [u16; REGISTERS],
-    place: &mut [u16; REGISTERS],
-    n: usize,
-) -> usize {
-    let mut size = 0;
-    let mut r = 0;
-    while r < n {
-        size = join(key, heap, place, size, r);
-        r += 1;
-    }
-    size
 }
 
 // ---- walks along the ends at a register. At its launch end a pair's setup starts there and its hold ends there; at its capture
@@ -167,23 +186,21 @@ fn worst_into(
     most
 }
 
-// The register that a rule ends at, unless it moves, has at least the key of the rule. The size of the heap.
+// The register that a rule ends at, unless it moves, has at least the key of the rule.
 fn ask(
     l: Link,
     rule: usize,
     forest: &[u16; PLACES],
     key: &mut [u32; REGISTERS],
-    heap: &mut [u16; REGISTERS],
-    place: &mut [u16; REGISTERS],
+    tops: &mut [u16; GROUPS],
     s: Span,
-    size: usize,
-) -> usize {
+) {
     let r = l.to;
     if free_forest::moves(forest, r) {
-        return size;
+        return;
     }
     let until = free_forest::broken_until(l, forest, s);
-    raise_key(key, heap, place, size, r, key_of(until, rule))
+    raise_key(key, tops, r, key_of(until, rule));
 }
 
 // All rules that start from register r.
@@ -193,25 +210,21 @@ fn ask_from(
     x: &[u32],
     forest: &[u16; PLACES],
     key: &mut [u32; REGISTERS],
-    heap: &mut [u16; REGISTERS],
-    place: &mut [u16; REGISTERS],
+    tops: &mut [u16; GROUPS],
     lasts: &[u16; REGISTERS],
     before: &[u16],
     s: Span,
-    size: usize,
     r: usize,
-) -> usize
+)
     requires { ⌜ AcceptedList (now words) (length (now x)) count ⌝ }
 {
-    let mut now = size;
     let mut end = pair_ends::last_at(lasts, r);
     while end > 0 {
         let rule = rule_from(end);
         let l = free_forest::link_of(words, count, x, rule, s.low);
-        now = ask(l, rule, forest, key, heap, place, s, now);
+        ask(l, rule, forest, key, tops, s);
         end = pair_ends::end_before(before, end);
     }
-    now
 }
 
 // All rules that start below register r, in its branch to `last`.
@@ -221,48 +234,25 @@ fn ask_below(
     x: &[u32],
     forest: &[u16; PLACES],
     key: &mut [u32; REGISTERS],
-    heap: &mut [u16; REGISTERS],
-    place: &mut [u16; REGISTERS],
+    tops: &mut [u16; GROUPS],
     lasts: &[u16; REGISTERS],
     before: &[u16],
     s: Span,
-    size: usize,
     r: usize,
     last: usize,
-) -> usize
+)
     requires { ⌜ AcceptedList (now words) (length (now x)) count ⌝ }
 {
-    let mut now = size;
     let mut q = r;
     let mut left = x.len();
     while left > 0 {
         left -= 1;
         if q == last {
-            return now;
+            return;
         }
         q = free_forest::next_of(forest, q);
-        now = ask_from(
-            words,
-            count,
-            x,
-            forest,
-            key,
-            heap,
-            place,
-            lasts,
-            before,
-            s,
-            now,
-            q,
-        );
+        ask_from(words, count, x, forest, key, tops, lasts, before, s, q);
     }
-    now
-}
-
-// The size of the heap, and the largest key of a rule that ends at the register at hand.
-pub struct Met {
-    pub size: usize,
-    pub worst: u32,
 }
 
 // Both rules of a pair at an end: the one that starts there is asked, the one that ends there is told.
@@ -272,70 +262,86 @@ fn meet(
     x: &[u32],
     forest: &[u16; PLACES],
     key: &mut [u32; REGISTERS],
-    heap: &mut [u16; REGISTERS],
-    place: &mut [u16; REGISTERS],
+    tops: &mut [u16; GROUPS],
     s: Span,
-    met: Met,
+    most: u32,
     end: usize,
-) -> Met
+) -> u32
     requires { ⌜ AcceptedList (now words) (length (now x)) count × (0 < end) ⌝ }
 {
     let k = (end - 1) / 2;
     if k >= count {
-        return met;
+        return most;
     }
     let p = delay_list::pair_at(words, k);
     let launch = end % 2 == 1;
     let out = free_forest::rule_link(p, launch, s.low, x);
-    let size = ask(out, rule_from(end), forest, key, heap, place, s, met.size);
+    ask(out, rule_from(end), forest, key, tops, s);
     let into = free_forest::rule_link(p, !launch, s.low, x);
-    Met {
-        size: size,
-        worst: worse(met.worst, into, end, forest, s),
-    }
+    worse(most, into, end, forest, s)
 }
 
-// Both rules of each pair at register r.
+// Both rules of each pair at register r; the largest key of those that end there.
 fn meet_all(
     words: &[u32],
     count: usize,
     x: &[u32],
     forest: &[u16; PLACES],
     key: &mut [u32; REGISTERS],
-    heap: &mut [u16; REGISTERS],
-    place: &mut [u16; REGISTERS],
+    tops: &mut [u16; GROUPS],
     lasts: &[u16; REGISTERS],
     before: &[u16],
     s: Span,
-    size: usize,
     r: usize,
-) -> Met
+) -> u32
     requires { ⌜ AcceptedList (now words) (length (now x)) count ⌝ }
 {
-    let mut met = Met {
-        size: size,
-        worst: 0,
-    };
+    let mut most = 0;
     let mut end = pair_ends::last_at(lasts, r);
     while end > 0 {
-        met = meet(words, count, x, forest, key, heap, place, s, met, end);
+        most = meet(words, count, x, forest, key, tops, s, most, end);
         end = pair_ends::end_before(before, end);
     }
-    met
+    most
+}
+
+// ---- moves at one period, which are taken back where a cycle is met there: the parents are then those of the period above
+
+const MOVES: usize = REGISTERS;
+
+const NOTES: usize = 2 * MOVES;
+
+// The parent of register r is noted before its move. The count of moves.
+fn note(notes: &mut [u16; NOTES], moves: usize, r: usize, parent: u16) -> usize {
+    let i = moves % MOVES;
+    notes[i] = (r % REGISTERS) as u16;
+    notes[MOVES + i] = parent;
+    if moves < MOVES { moves + 1 } else { moves }
+}
+
+fn take_back(parents: &mut [u16; REGISTERS], notes: &[u16; NOTES], moves: usize) {
+    let mut left = moves;
+    while left > 0 {
+        left -= 1;
+        let i = left % MOVES;
+        let r = wide(notes[i]);
+        parents[r % REGISTERS] = notes[MOVES + i];
+    }
 }
 
 // ---- turns
 
-// How far the descent has come: times are told at the period `low`, and `level` is the one it has come down to; `size` is the count
-// of registers in the heap, 0 once it is over, and `height` that of those put off until the register at hand, `at`, has been moved
-// by `rule`. Once it is over the rule closes a cycle there, if one was met.
+// How far the descent has come: times are told at the period `low`, and `level` is the one it has come down to, with so many moves;
+// `height` is the count of registers put off until the one at hand, `at`, has been moved by `rule`. Once it is over the rule closes
+// a cycle there, if one was met.
 pub struct Descent {
     pub low: u32,
     pub level: u32,
-    pub size: usize,
+    pub moves: usize,
     pub height: usize,
     pub at: usize,
     pub rule: usize,
+    pub over: bool,
 }
 
 fn span_of(d: Descent) -> Span {
@@ -343,13 +349,6 @@ fn span_of(d: Descent) -> Span {
         low: d.low,
         level: d.level,
     }
-}
-
-// It is over.
-fn ended(d: Descent) -> Descent {
-    let mut next = d;
-    next.size = 0;
-    next
 }
 
 // The register put off last is at hand, or nobody.
@@ -374,55 +373,6 @@ fn put_off(d: Descent, forest: &mut [u16; PLACES], r: usize) -> Descent {
     next
 }
 
-// All rules that start from the branch of register r to `last`, and those that end at r.
-fn meet_branch(
-    words: &[u32],
-    count: usize,
-    x: &[u32],
-    forest: &[u16; PLACES],
-    key: &mut [u32; REGISTERS],
-    heap: &mut [u16; REGISTERS],
-    place: &mut [u16; REGISTERS],
-    lasts: &[u16; REGISTERS],
-    before: &[u16],
-    d: Descent,
-    r: usize,
-    last: usize,
-) -> Met
-    requires { ⌜ AcceptedList (now words) (length (now x)) count ⌝ }
-{
-    let s = span_of(d);
-    let size = ask_below(
-        words,
-        count,
-        x,
-        forest,
-        key,
-        heap,
-        place,
-        lasts,
-        before,
-        s,
-        d.size,
-        r,
-        last,
-    );
-    meet_all(
-        words,
-        count,
-        x,
-        forest,
-        key,
-        heap,
-        place,
-        lasts,
-        before,
-        s,
-        size,
-        r,
-    )
-}
-
 // The register at hand is moved below the one that the rule starts from, unless that hangs below it: then the rule closes a cycle.
 fn hang(
     words: &[u32],
@@ -431,8 +381,8 @@ fn hang(
     parents: &mut [u16; REGISTERS],
     forest: &mut [u16; PLACES],
     key: &mut [u32; REGISTERS],
-    heap: &mut [u16; REGISTERS],
-    place: &mut [u16; REGISTERS],
+    tops: &mut [u16; GROUPS],
+    notes: &mut [u16; NOTES],
     lasts: &[u16; REGISTERS],
     before: &[u16],
     d: Descent,
@@ -440,44 +390,49 @@ fn hang(
 ) -> Descent
     requires { ⌜ AcceptedList (now words) (length (now x)) count ⌝ }
 {
+    let mut next = d;
     let r = d.at;
+    let s = span_of(d);
     let by = free_forest::distance_by(l, forest);
     let last = free_forest::move_branch(words, count, x, parents, forest, r, by);
     if free_forest::moves(forest, l.from) {
-        return ended(d);
+        next.over = true;
+        return next;
     }
+    let moves = note(notes, d.moves, r, parents[r % REGISTERS]);
+    next.moves = moves;
     parents[r % REGISTERS] = (d.rule % 0x1000) as u16;
     free_forest::put_below(forest, r, last, l.from);
-    let met = meet_branch(
+    ask_below(
         words,
         count,
         x,
         forest,
         key,
-        heap,
-        place,
+        tops,
         lasts,
         before,
-        d,
+        s,
         r,
         last,
     );
+    let worst = meet_all(words, count, x, forest, key, tops, lasts, before, s, r);
     free_forest::stand_still(forest, r, last);
-    lower_key(key, heap, place, met.size, r, met.worst);
-    let mut next = d;
-    next.size = met.size;
+    lower_key(key, tops, r, worst);
     resumed(next, forest)
 }
 
-// Where nobody is at hand, the register with the largest key is; with a key of 0 nothing is broken at `low`, and the descent is over.
-fn taken(d: Descent, key: &[u32; REGISTERS], heap: &[u16; REGISTERS]) -> Descent {
+// Where nobody is at hand, of n registers the one with the largest key is; with a key of 0 nothing is broken at `low`, and the
+// descent is over.
+fn taken(d: Descent, key: &[u32; REGISTERS], tops: &[u16; GROUPS], n: usize) -> Descent {
     if d.at < REGISTERS {
         return d;
     }
     let mut next = d;
-    let r = register_heap::register_at(heap, 0);
-    if key[r % REGISTERS] == 0 {
-        return ended(d);
+    let r = largest(key, tops, n);
+    if key_at(key, r) == 0 {
+        next.over = true;
+        return next;
     }
     next.at = r;
     next
@@ -486,6 +441,16 @@ fn taken(d: Descent, key: &[u32; REGISTERS], heap: &[u16; REGISTERS]) -> Descent
 // What a rule into the register at hand has to be broken up to: its key, or, where it had been put off, the level.
 fn due(d: Descent, key: u32, fresh: bool) -> u32 {
     if fresh { until_of(key) } else { d.level }
+}
+
+// At a shorter period no move has been made yet.
+fn come_to(d: Descent, until: u32) -> Descent {
+    let mut next = d;
+    if until < d.level {
+        next.level = until;
+        next.moves = 0;
+    }
+    next
 }
 
 // Whether the register that a rule starts from is to move first.
@@ -508,16 +473,16 @@ fn turn(
     parents: &mut [u16; REGISTERS],
     forest: &mut [u16; PLACES],
     key: &mut [u32; REGISTERS],
-    heap: &mut [u16; REGISTERS],
-    place: &mut [u16; REGISTERS],
+    tops: &mut [u16; GROUPS],
+    notes: &mut [u16; NOTES],
     lasts: &[u16; REGISTERS],
     before: &[u16],
     d: Descent,
 ) -> Descent
     requires { ⌜ AcceptedList (now words) (length (now x)) count ⌝ }
 {
-    let mut next = taken(d, key, heap);
-    if next.size == 0 {
+    let mut next = taken(d, key, tops, x.len());
+    if next.over {
         return next;
     }
     let r = next.at;
@@ -528,10 +493,10 @@ fn turn(
     let until = free_forest::broken_until(l, forest, s);
     if until < due(d, own, d.at >= REGISTERS) {
         let worst = worst_into(words, count, x, forest, lasts, before, s, r);
-        lower_key(key, heap, place, d.size, r, worst);
+        lower_key(key, tops, r, worst);
         return resumed(next, forest);
     }
-    next.level = smaller(d.level, until);
+    next = come_to(next, until);
     if moves_first(next, key, l) {
         return put_off(next, forest, l.from);
     }
@@ -542,8 +507,8 @@ fn turn(
         parents,
         forest,
         key,
-        heap,
-        place,
+        tops,
+        notes,
         lasts,
         before,
         next,
@@ -554,8 +519,16 @@ fn turn(
 // No period is shown too short.
 const NOTHING: u32 = 0;
 
-// The period that the cycle asks for which the rule at the register at hand closes; 0 if it closes none. The parents stay a forest.
-fn closed(words: &[u32], count: usize, n: usize, parents: &mut [u16; REGISTERS], d: Descent) -> u32
+// The period that the cycle asks for which the rule at the register at hand closes; 0 if it closes none. The parents are left as
+// they are at the shortest period without a cycle.
+fn closed(
+    words: &[u32],
+    count: usize,
+    n: usize,
+    parents: &mut [u16; REGISTERS],
+    notes: &[u16; NOTES],
+    d: Descent,
+) -> u32
     requires { ⌜ AcceptedList (now words) n count ⌝ }
     ensures { λ u. ⌜ Bound (pairs (now (words .entry))) u ⌝ }
 {
@@ -567,6 +540,7 @@ fn closed(words: &[u32], count: usize, n: usize, parents: &mut [u16; REGISTERS],
     parents[r % REGISTERS] = (d.rule % 0x1000) as u16;
     let longer = free_cycles::around(words, count, n, parents, r as u32);
     parents[r % REGISTERS] = own;
+    take_back(parents, notes, d.moves);
     longer
 }
 
@@ -577,11 +551,11 @@ const TURNS: usize = 64 * REGISTERS;
 fn turns_left(d: Descent, left: usize) -> usize
     ensures { λ r. ⌜ r ≤ left ⌝ }
 {
-    if d.size == 0 { 0 } else { left }
+    if d.over { 0 } else { left }
 }
 
-// The descent to the period `low`. What a cycle that was met on the way asks for, else 0; the parents are left as they are at the
-// shortest period with none, so that raises along them are seen to give its times.
+// The descent to the period `low`. What a cycle that was met on the way asks for, else 0; the parents are left so that raises along
+// them are seen to give the times of the shortest period without a cycle.
 pub fn descend(
     words: &[u32],
     count: usize,
@@ -596,18 +570,19 @@ pub fn descend(
 {
     let mut forest = [NOBODY; PLACES];
     let mut key = [0u32; REGISTERS];
-    let mut heap = [0u16; REGISTERS];
-    let mut place = [0u16; REGISTERS];
+    let mut tops = [0u16; GROUPS];
+    let mut notes = [0u16; NOTES];
     free_forest::set_apart(x, parents, &mut forest);
     first_keys(words, count, low, &mut key);
-    let size = gather(&key, &mut heap, &mut place, x.len());
+    find_tops(&key, &mut tops, x.len());
     let mut d = Descent {
         low: low,
         level: timing::MAX_PERIOD,
-        size: size,
+        moves: 0,
         height: 0,
         at: REGISTERS,
         rule: 0,
+        over: false,
     };
     let mut left = TURNS;
     while left > 0 {
@@ -618,13 +593,13 @@ pub fn descend(
             parents,
             &mut forest,
             &mut key,
-            &mut heap,
-            &mut place,
+            &mut tops,
+            &mut notes,
             lasts,
             before,
             d,
         );
         left = turns_left(d, left - 1);
     }
-    closed(words, count, x.len(), parents, d)
+    closed(words, count, x.len(), parents, &notes, d)
 }

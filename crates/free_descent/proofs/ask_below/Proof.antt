@@ -8,11 +8,11 @@ use Rattle.free_descent.proofs.ask_below.Statement.{statement}
 use Rattle.free_descent.proofs.ask_below.Tie as tie
 
 abbrev Inv-loop : tie.InvT-loop
-Inv-loop words count x forest key₀ heap₀ place₀ lasts before s size r last now₀ q₀ left₀ key heap place now q left =
+Inv-loop words count x forest key₀ tops₀ lasts before s r last q₀ left₀ key tops q left =
     left ≤ length x
 
 abbrev μ-loop : tie.MeasureT-loop
-μ-loop words count x forest key₀ heap₀ place₀ lasts before s size r last now₀ q₀ left₀ key heap place now q left = left
+μ-loop words count x forest key₀ tops₀ lasts before s r last q₀ left₀ key tops q left = left
 
 pub ask-below-spec : {M : Type 1} → statement M
 ask-below-spec =

@@ -9,11 +9,11 @@ use Rattle.free_descent.proofs.descend.Statement.{statement}
 use Rattle.free_descent.proofs.descend.Tie as tie
 
 abbrev Inv-loop : tie.InvT-loop
-Inv-loop words count x₀ parents₀ lasts before low forest₀ key₀ heap₀ place₀ size d₀ left₀ x parents forest key heap place d left =
+Inv-loop words count x₀ parents₀ lasts before low forest₀ key₀ tops₀ notes₀ d₀ left₀ x parents forest key tops notes d left =
     length x ≡ length x₀
 
 abbrev μ-loop : tie.MeasureT-loop
-μ-loop words count x₀ parents₀ lasts before low forest₀ key₀ heap₀ place₀ size d₀ left₀ x parents forest key heap place d left = left
+μ-loop words count x₀ parents₀ lasts before low forest₀ key₀ tops₀ notes₀ d₀ left₀ x parents forest key tops notes d left = left
 
 first-keys-requires : tie.Need-first-keys-requires Inv-loop μ-loop
 first-keys-requires c κs =
@@ -24,8 +24,8 @@ turn-requires : tie.Need-turn-requires Inv-loop μ-loop
 turn-requires c κs =
     let l = c .before .before .before .before .before .before .before in
     let p′ = l .before .before .before .before .before .before .before .before .before .before .before .before .before .before in
-    let p = p′ .before .before .pre in
-    still-accepted (l .loop .inv ∙ l .before .before .before .before .before .before .before .before .before .set-apart .kept .0) p
+    let p = p′ .before .pre in
+    still-accepted (l .loop .inv ∙ l .before .before .before .before .before .before .before .before .set-apart .kept .0) p
 
 loop-less : tie.Need-loop-less Inv-loop μ-loop
 loop-less c =
@@ -39,15 +39,15 @@ loop-again c =
 
 closed-requires : tie.Need-closed-requires Inv-loop μ-loop
 closed-requires c κs =
-    let l = c .before .before in
+    let l = c .before .before .before in
     let p′ = l .before .before .before .before .before .before .before .before .before .before .before .before .before .before in
-    let p = p′ .before .before .pre in
-    still-accepted (l .loop .inv ∙ l .before .before .before .before .before .before .before .before .before .set-apart .kept .0) p
+    let p = p′ .before .pre in
+    still-accepted (l .loop .inv ∙ l .before .before .before .before .before .before .before .before .set-apart .kept .0) p
 
 same-length : tie.Need-same-length Inv-loop μ-loop
 same-length c =
-    let l = c .before .before .before in
-    l .loop .inv ∙ l .before .before .before .before .before .before .before .before .before .set-apart .kept .0
+    let l = c .before .before .before .before in
+    l .loop .inv ∙ l .before .before .before .before .before .before .before .before .set-apart .kept .0
 
 pub descend-spec : {M : Type 1} → statement M
 descend-spec =

@@ -7,10 +7,10 @@ use Rattle.free_descent.proofs.meet_all.Statement.{statement}
 use Rattle.free_descent.proofs.meet_all.Tie as tie
 
 abbrev Inv-loop : tie.InvT-loop
-Inv-loop words count x forest key₀ heap₀ place₀ lasts before s size r met₀ end₀ key heap place met end = 0 ≤ end
+Inv-loop words count x forest key₀ tops₀ lasts before s r most₀ end₀ key tops most end = 0 ≤ end
 
 abbrev μ-loop : tie.MeasureT-loop
-μ-loop words count x forest key₀ heap₀ place₀ lasts before s size r met₀ end₀ key heap place met end = end
+μ-loop words count x forest key₀ tops₀ lasts before s r most₀ end₀ key tops most end = end
 
 pub meet-all-spec : {M : Type 1} → statement M
 meet-all-spec =
