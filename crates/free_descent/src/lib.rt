@@ -156,10 +156,10 @@ fn rule_into(end: usize) -> usize {
 
 // The larger of a key and that of a rule that ends at the register of an end.
 fn worse(most: u32, l: Link, end: usize, forest: &[u16; PLACES], s: Span) -> u32 {
-    if l.asked <= l.there {
+    let until = free_forest::broken_until(l, forest, s);
+    if until == 0 {
         return most;
     }
-    let until = free_forest::broken_until(l, forest, s);
     larger(most, key_of(until, rule_into(end)))
 }
 

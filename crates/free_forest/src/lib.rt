@@ -162,15 +162,31 @@ pub struct Span {
     pub level: u32,
 }
 
-// Up to which period, the level at most, a rule is broken; 0 where it is met at `low`.
-pub fn broken_until(l: Link, forest: &[u16; PLACES], s: Span) -> u32 {
-    if l.asked <= l.there {
-        return 0;
+// Whether a rule is broken at the level, where it ends at a register with at least as many setup rules above it, `more` of them:
+// the longer the period, the more it is broken.
+fn broken_at_level(l: Link, more: u32, s: Span) -> bool {
+    if l.asked > l.there {
+        return true;
     }
+    if more == 0 {
+        return false;
+    }
+    (l.there - l.asked) / more < wrapping_sub_u32(s.level, s.low)
+}
+
+// Up to which period from `low` to the level a rule is broken; 0 where it is met at all of them.
+pub fn broken_until(l: Link, forest: &[u16; PLACES], s: Span) -> u32 {
     let above = wrapping_add_u32(setups_of(forest, l.from), l.setup);
     let own = setups_of(forest, l.to);
     if above <= own {
-        return s.level;
+        return if broken_at_level(l, own - above, s) {
+            s.level
+        } else {
+            0
+        };
+    }
+    if l.asked <= l.there {
+        return 0;
     }
     let further = (l.asked - l.there - 1) / (above - own);
     smaller(s.level, wrapping_add_u32(s.low, further))

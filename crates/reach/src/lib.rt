@@ -250,7 +250,9 @@ fn gather(
     let mut size = 0;
     let mut r = 0;
     while r < reach.len() {
-        size = join(most, reach, line, place, size, r);
+        if reach[r] > most {
+            size = register_heap::put(reach, line, place, size, r);
+        }
         r += 1;
     }
     size
