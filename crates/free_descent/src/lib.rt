@@ -154,9 +154,10 @@ fn rule_into(end: usize) -> usize {
     if end > 1 { end - 2 } else { 0 }
 }
 
-// The larger of a key and that of a rule that ends at the register of an end.
-fn worse(most: u32, l: Link, end: usize, forest: &[u16; PLACES], s: Span) -> u32 {
-    let until = free_forest::broken_until(l, forest, s);
+// The larger of a key and that of a rule that ends at the register of an end, with `own` setup rules above it.
+fn worse(most: u32, l: Link, end: usize, own: u32, forest: &[u16; PLACES], s: Span) -> u32 {
+    let source = free_forest::setups_of(forest, l.from);
+    let until = free_forest::broken_until(l, source, own, s);
     if until == 0 {
         return most;
     }
@@ -176,20 +177,22 @@ fn worst_into(
 ) -> u32
     requires { ⌜ AcceptedList (now words) (length (now x)) count ⌝ }
 {
+    let own = free_forest::setups_of(forest, r);
     let mut most = 0;
     let mut end = pair_ends::last_at(lasts, r);
     while end > 0 {
         let l = free_forest::link_of(words, count, x, rule_into(end), s.low);
-        most = worse(most, l, end, forest, s);
+        most = worse(most, l, end, own, forest, s);
         end = pair_ends::end_before(before, end);
     }
     most
 }
 
-// The register that a rule ends at, unless it moves, has at least the key of the rule.
+// The register that a rule ends at, unless it moves, has at least the key of the rule, which starts below so many setup rules.
 fn ask(
     l: Link,
     rule: usize,
+    source: u32,
     forest: &[u16; PLACES],
     key: &mut [u32; REGISTERS],
     tops: &mut [u16; GROUPS],
@@ -199,7 +202,8 @@ fn ask(
     if free_forest::moves(forest, r) {
         return;
     }
-    let until = free_forest::broken_until(l, forest, s);
+    let own = free_forest::setups_of(forest, r);
+    let until = free_forest::broken_until(l, source, own, s);
     raise_key(key, tops, r, key_of(until, rule));
 }
 
@@ -218,11 +222,12 @@ fn ask_from(
 )
     requires { ⌜ AcceptedList (now words) (length (now x)) count ⌝ }
 {
+    let source = free_forest::setups_of(forest, r);
     let mut end = pair_ends::last_at(lasts, r);
     while end > 0 {
         let rule = rule_from(end);
         let l = free_forest::link_of(words, count, x, rule, s.low);
-        ask(l, rule, forest, key, tops, s);
+        ask(l, rule, source, forest, key, tops, s);
         end = pair_ends::end_before(before, end);
     }
 }
@@ -264,6 +269,7 @@ fn meet(
     key: &mut [u32; REGISTERS],
     tops: &mut [u16; GROUPS],
     s: Span,
+    own: u32,
     most: u32,
     end: usize,
 ) -> u32
@@ -276,9 +282,9 @@ fn meet(
     let p = delay_list::pair_at(words, k);
     let launch = end % 2 == 1;
     let out = free_forest::rule_link(p, launch, s.low, x);
-    ask(out, rule_from(end), forest, key, tops, s);
+    ask(out, rule_from(end), own, forest, key, tops, s);
     let into = free_forest::rule_link(p, !launch, s.low, x);
-    worse(most, into, end, forest, s)
+    worse(most, into, end, own, forest, s)
 }
 
 // Both rules of each pair at register r; the largest key of those that end there.
@@ -296,10 +302,11 @@ fn meet_all(
 ) -> u32
     requires { ⌜ AcceptedList (now words) (length (now x)) count ⌝ }
 {
+    let own = free_forest::setups_of(forest, r);
     let mut most = 0;
     let mut end = pair_ends::last_at(lasts, r);
     while end > 0 {
-        most = meet(words, count, x, forest, key, tops, s, most, end);
+        most = meet(words, count, x, forest, key, tops, s, own, most, end);
         end = pair_ends::end_before(before, end);
     }
     most
@@ -490,7 +497,8 @@ fn turn(
     let own = key[r % REGISTERS];
     next.rule = rule_of(own);
     let l = free_forest::link_of(words, count, x, next.rule, d.low);
-    let until = free_forest::broken_until(l, forest, s);
+    let source = free_forest::setups_of(forest, l.from);
+    let until = free_forest::broken_until(l, source, free_forest::setups_of(forest, r), s);
     if until < due(d, own, d.at >= REGISTERS) {
         let worst = worst_into(words, count, x, forest, lasts, before, s, r);
         lower_key(key, tops, r, worst);

@@ -46,7 +46,7 @@ fn long(x: u16) -> u32 {
     x as u32
 }
 
-fn setups_of(forest: &[u16; PLACES], r: usize) -> u32 {
+pub fn setups_of(forest: &[u16; PLACES], r: usize) -> u32 {
     long(forest[COUNTS + r % REGISTERS] % MOVES)
 }
 
@@ -174,10 +174,10 @@ fn broken_at_level(l: Link, more: u32, s: Span) -> bool {
     (l.there - l.asked) / more < wrapping_sub_u32(s.level, s.low)
 }
 
-// Up to which period from `low` to the level a rule is broken; 0 where it is met at all of them.
-pub fn broken_until(l: Link, forest: &[u16; PLACES], s: Span) -> u32 {
-    let above = wrapping_add_u32(setups_of(forest, l.from), l.setup);
-    let own = setups_of(forest, l.to);
+// Up to which period from `low` to the level a rule is broken, with so many setup rules above the registers that it starts from and
+// ends at; 0 where it is met at all of them.
+pub fn broken_until(l: Link, source: u32, own: u32, s: Span) -> u32 {
+    let above = wrapping_add_u32(source, l.setup);
     if above <= own {
         return if broken_at_level(l, own - above, s) {
             s.level

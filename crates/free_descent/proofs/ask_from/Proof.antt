@@ -7,14 +7,15 @@ use Rattle.free_descent.proofs.ask_from.Statement.{statement}
 use Rattle.free_descent.proofs.ask_from.Tie as tie
 
 abbrev Inv-loop : tie.InvT-loop
-Inv-loop words count x forest key₀ tops₀ lasts before s r end₀ key tops end = 0 ≤ end
+Inv-loop words count x forest key₀ tops₀ lasts before s r source end₀ key tops end = 0 ≤ end
 
 abbrev μ-loop : tie.MeasureT-loop
-μ-loop words count x forest key₀ tops₀ lasts before s r end₀ key tops end = end
+μ-loop words count x forest key₀ tops₀ lasts before s r source end₀ key tops end = end
 
 pub ask-from-spec : {M : Type 1} → statement M
 ask-from-spec =
     tie.close
     (tie.spec
-    Inv-loop μ-loop (λ c κs. search needs) (λ c. omega arith) (λ c κs. search needs) (λ c κs. search needs)
-    (λ c κs. search needs) (λ c κs. search needs) (λ c. c .end-before .ensures) (λ c. omega arith) (λ c. search needs))
+    Inv-loop μ-loop (λ c κs. search needs) (λ c κs. search needs) (λ c. omega arith) (λ c κs. search needs)
+    (λ c κs. search needs) (λ c κs. search needs) (λ c κs. search needs) (λ c. c .end-before .ensures)
+    (λ c. omega arith) (λ c. search needs))
