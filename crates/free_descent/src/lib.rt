@@ -8,6 +8,7 @@ ghost use lib.ListN.{length};
 ghost use Rattle.list_format.specs.Lists.{pairCount, pairs, IsAccepted, AcceptedList};
 ghost use Rattle.free_laws.specs.Constraint.{Bound};
 use free_forest::ASIDE;
+use free_forest::Across;
 use free_forest::Link;
 use free_forest::NOBODY;
 use free_forest::PLACES;
@@ -138,9 +139,9 @@ fn first_keys(words: &[u32], count: usize, low: u32, key: &mut [u32; REGISTERS])
     }
 }
 
-// ---- walks along the ends at a register. At its launch end a pair's setup starts there and its hold ends there; at its capture
-// end it is the other way round
+// ---- walks along the ends at a register
 
+// The numbers of the rules that start and end at the register of an end.
 fn rule_from(end: usize) -> usize
     requires { ⌜ 0 < end ⌝ }
 {
@@ -154,10 +155,26 @@ fn rule_into(end: usize) -> usize {
     if end > 1 { end - 2 } else { 0 }
 }
 
-// The larger of a key and that of a rule that ends at the register of an end, with `own` setup rules above it.
-fn worse(most: u32, l: Link, end: usize, own: u32, forest: &[u16; PLACES], s: Span) -> u32 {
-    let source = free_forest::setups_of(forest, l.from);
-    let until = free_forest::broken_until(l, source, own, s);
+// A register with its time and the count of setup rules above it.
+pub struct Here {
+    pub register: usize,
+    pub time: u32,
+    pub setups: u32,
+}
+
+fn here_at(x: &[u32], forest: &[u16; PLACES], r: usize) -> Here {
+    Here {
+        register: r,
+        time: free_forest::time_of(x, r),
+        setups: free_forest::setups_of(forest, r),
+    }
+}
+
+// The larger of a key and that of the rule that ends here, at an end.
+fn worse(most: u32, h: Here, a: Across, end: usize, forest: &[u16; PLACES], s: Span) -> u32 {
+    let l = free_forest::link_into(a, h.register, h.time, s.low);
+    let source = free_forest::setups_of(forest, a.register);
+    let until = free_forest::broken_until(l, source, h.setups, s);
     if until == 0 {
         return most;
     }
@@ -177,33 +194,33 @@ fn worst_into(
 ) -> u32
     requires { ⌜ AcceptedList (now words) (length (now x)) count ⌝ }
 {
-    let own = free_forest::setups_of(forest, r);
+    let h = here_at(x, forest, r);
     let mut most = 0;
     let mut end = pair_ends::last_at(lasts, r);
     while end > 0 {
-        let l = free_forest::link_of(words, count, x, rule_into(end), s.low);
-        most = worse(most, l, end, own, forest, s);
+        let a = free_forest::across_at(words, count, x, end);
+        most = worse(most, h, a, end, forest, s);
         end = pair_ends::end_before(before, end);
     }
     most
 }
 
-// The register that a rule ends at, unless it moves, has at least the key of the rule, which starts below so many setup rules.
+// The register across, unless it moves, has at least the key of the rule that starts here.
 fn ask(
-    l: Link,
+    h: Here,
+    a: Across,
     rule: usize,
-    source: u32,
     forest: &[u16; PLACES],
     key: &mut [u32; REGISTERS],
     tops: &mut [u16; GROUPS],
     s: Span,
 ) {
-    let r = l.to;
+    let r = a.register;
     if free_forest::moves(forest, r) {
         return;
     }
-    let own = free_forest::setups_of(forest, r);
-    let until = free_forest::broken_until(l, source, own, s);
+    let l = free_forest::link_from(a, h.register, h.time, s.low);
+    let until = free_forest::broken_until(l, h.setups, free_forest::setups_of(forest, r), s);
     raise_key(key, tops, r, key_of(until, rule));
 }
 
@@ -222,12 +239,11 @@ fn ask_from(
 )
     requires { ⌜ AcceptedList (now words) (length (now x)) count ⌝ }
 {
-    let source = free_forest::setups_of(forest, r);
+    let h = here_at(x, forest, r);
     let mut end = pair_ends::last_at(lasts, r);
     while end > 0 {
-        let rule = rule_from(end);
-        let l = free_forest::link_of(words, count, x, rule, s.low);
-        ask(l, rule, source, forest, key, tops, s);
+        let a = free_forest::across_at(words, count, x, end);
+        ask(h, a, rule_from(end), forest, key, tops, s);
         end = pair_ends::end_before(before, end);
     }
 }
@@ -260,34 +276,7 @@ fn ask_below(
     }
 }
 
-// Both rules of a pair at an end: the one that starts there is asked, the one that ends there is told.
-fn meet(
-    words: &[u32],
-    count: usize,
-    x: &[u32],
-    forest: &[u16; PLACES],
-    key: &mut [u32; REGISTERS],
-    tops: &mut [u16; GROUPS],
-    s: Span,
-    own: u32,
-    most: u32,
-    end: usize,
-) -> u32
-    requires { ⌜ AcceptedList (now words) (length (now x)) count × (0 < end) ⌝ }
-{
-    let k = (end - 1) / 2;
-    if k >= count {
-        return most;
-    }
-    let p = delay_list::pair_at(words, k);
-    let launch = end % 2 == 1;
-    let out = free_forest::rule_link(p, launch, s.low, x);
-    ask(out, rule_from(end), own, forest, key, tops, s);
-    let into = free_forest::rule_link(p, !launch, s.low, x);
-    worse(most, into, end, own, forest, s)
-}
-
-// Both rules of each pair at register r; the largest key of those that end there.
+// Both rules of each pair at register r: those that start there are asked; the largest key of those that end there.
 fn meet_all(
     words: &[u32],
     count: usize,
@@ -302,11 +291,13 @@ fn meet_all(
 ) -> u32
     requires { ⌜ AcceptedList (now words) (length (now x)) count ⌝ }
 {
-    let own = free_forest::setups_of(forest, r);
+    let h = here_at(x, forest, r);
     let mut most = 0;
     let mut end = pair_ends::last_at(lasts, r);
     while end > 0 {
-        most = meet(words, count, x, forest, key, tops, s, own, most, end);
+        let a = free_forest::across_at(words, count, x, end);
+        ask(h, a, rule_from(end), forest, key, tops, s);
+        most = worse(most, h, a, end, forest, s);
         end = pair_ends::end_before(before, end);
     }
     most

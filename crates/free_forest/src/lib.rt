@@ -5,13 +5,11 @@ ghost use mathlib.Core.Path.{_≡_};
 ghost use Prim.Native.Nat.{_<_};
 ghost use lib.ListN.{length};
 ghost use Rattle.list_format.specs.Lists.{pairCount, IsAccepted, AcceptedList};
-ghost use Rattle.timing.specs.Rules.{InRange};
 use free_rounds::NO_RULE;
 use pair_ends::REGISTERS;
 use pair_ends::wide;
 use std::num::wrapping_add_u32;
 use std::num::wrapping_sub_u32;
-use timing::Pair;
 use timing::smaller;
 
 // ---- the order: for each register the next and the one before, and the count of setup rules above it; then registers set aside
@@ -113,15 +111,26 @@ pub struct Link {
     pub setup: u32,
 }
 
-// A rule of a pair at the period `low`.
-pub fn rule_link(p: Pair, setup: bool, low: u32, x: &[u32]) -> Link
-    requires { ⌜ InRange (length (now x)) p ⌝ }
+// A rule by its number at the period `low`; where the list has none, one that is met.
+pub fn link_of(words: &[u32], count: usize, x: &[u32], rule: usize, low: u32) -> Link
+    requires { ⌜ AcceptedList (now words) (length (now x)) count ⌝ }
 {
+    let k = rule / 2;
+    if k >= count {
+        return Link {
+            from: 0,
+            to: 0,
+            asked: 0,
+            there: 0,
+            setup: 0,
+        };
+    }
+    let p = delay_list::pair_at(words, k);
     let a = p.launch as usize;
     let b = p.capture as usize;
     let launched = x[a];
     let captured = x[b];
-    if setup {
+    if rule % 2 == 0 {
         return Link {
             from: a,
             to: b,
@@ -139,21 +148,92 @@ pub fn rule_link(p: Pair, setup: bool, low: u32, x: &[u32]) -> Link
     }
 }
 
-// The same by the number of the rule; where the list has none, one that is met.
-pub fn link_of(words: &[u32], count: usize, x: &[u32], rule: usize, low: u32) -> Link
-    requires { ⌜ AcceptedList (now words) (length (now x)) count ⌝ }
+// What an end of a pair has across: the register there with its time, the delays between, and whether this end is the launch.
+pub struct Across {
+    pub register: usize,
+    pub time: u32,
+    pub least: u32,
+    pub greatest: u32,
+    pub launch: bool,
+}
+
+pub fn across_at(words: &[u32], count: usize, x: &[u32], end: usize) -> Across
+    requires { ⌜ AcceptedList (now words) (length (now x)) count × (0 < end) ⌝ }
 {
-    let k = rule / 2;
+    let k = (end - 1) / 2;
+    let launch = end % 2 == 1;
     if k >= count {
+        return Across {
+            register: 0,
+            time: 0,
+            least: 0,
+            greatest: 0,
+            launch: launch,
+        };
+    }
+    let p = delay_list::pair_at(words, k);
+    let a = p.launch as usize;
+    let b = p.capture as usize;
+    if launch {
+        return Across {
+            register: b,
+            time: x[b],
+            least: p.least,
+            greatest: p.greatest,
+            launch: true,
+        };
+    }
+    Across {
+        register: a,
+        time: x[a],
+        least: p.least,
+        greatest: p.greatest,
+        launch: false,
+    }
+}
+
+// The rule that starts at the end: at the launch the pair's setup, at the capture its hold. The register there, r, has that time.
+pub fn link_from(a: Across, r: usize, time: u32, low: u32) -> Link {
+    if a.launch {
         return Link {
-            from: 0,
-            to: 0,
-            asked: 0,
-            there: 0,
+            from: r,
+            to: a.register,
+            asked: wrapping_add_u32(time, a.greatest),
+            there: wrapping_add_u32(a.time, low),
+            setup: 1,
+        };
+    }
+    Link {
+        from: r,
+        to: a.register,
+        asked: time,
+        there: wrapping_add_u32(a.time, a.least),
+        setup: 0,
+    }
+}
+
+// The rule that ends there, the other one.
+pub fn link_into(a: Across, r: usize, time: u32, low: u32) -> Link {
+    if a.launch {
+        return Link {
+            from: a.register,
+            to: r,
+            asked: a.time,
+            there: wrapping_add_u32(time, a.least),
             setup: 0,
         };
     }
-    rule_link(delay_list::pair_at(words, k), rule % 2 == 0, low, x)
+    Link {
+        from: a.register,
+        to: r,
+        asked: wrapping_add_u32(a.time, a.greatest),
+        there: wrapping_add_u32(time, low),
+        setup: 1,
+    }
+}
+
+pub fn time_of(x: &[u32], r: usize) -> u32 {
+    if r < x.len() { x[r] } else { 0 }
 }
 
 // The periods of a descent: it has come down to `level`, and times are told at `low`.

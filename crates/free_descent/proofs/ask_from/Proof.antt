@@ -7,10 +7,10 @@ use Rattle.free_descent.proofs.ask_from.Statement.{statement}
 use Rattle.free_descent.proofs.ask_from.Tie as tie
 
 abbrev Inv-loop : tie.InvT-loop
-Inv-loop words count x forest key₀ tops₀ lasts before s r source end₀ key tops end = 0 ≤ end
+Inv-loop words count x forest key₀ tops₀ lasts before s r h end₀ key tops end = 0 ≤ end
 
 abbrev μ-loop : tie.MeasureT-loop
-μ-loop words count x forest key₀ tops₀ lasts before s r source end₀ key tops end = end
+μ-loop words count x forest key₀ tops₀ lasts before s r h end₀ key tops end = end
 
 pub ask-from-spec : {M : Type 1} → statement M
 ask-from-spec =

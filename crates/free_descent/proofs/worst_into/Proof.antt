@@ -7,15 +7,14 @@ use Rattle.free_descent.proofs.worst_into.Statement.{statement}
 use Rattle.free_descent.proofs.worst_into.Tie as tie
 
 abbrev Inv-loop : tie.InvT-loop
-Inv-loop words count x forest lasts before s r own most₀ end₀ most end = 0 ≤ end
+Inv-loop words count x forest lasts before s r h most₀ end₀ most end = 0 ≤ end
 
 abbrev μ-loop : tie.MeasureT-loop
-μ-loop words count x forest lasts before s r own most₀ end₀ most end = end
+μ-loop words count x forest lasts before s r h most₀ end₀ most end = end
 
 pub worst-into-spec : {M : Type 1} → statement M
 worst-into-spec =
     tie.close
     (tie.spec
     Inv-loop μ-loop (λ c κs. search needs) (λ c κs. search needs) (λ c. omega arith) (λ c κs. search needs)
-    (λ c κs. search needs) (λ c κs. search needs) (λ c κs. search needs) (λ c. c .end-before .ensures)
-    (λ c. omega arith) (λ c. search needs))
+    (λ c κs. search needs) (λ c κs. search needs) (λ c. c .end-before .ensures) (λ c. omega arith) (λ c. search needs))
