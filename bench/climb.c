@@ -1,16 +1,22 @@
-/* Climbs to slow lists: climb time|ratio FILE SECONDS SEED OUT. Starts from the list in FILE and changes it at random for so many
- * seconds; a change is kept if the plan then takes no less time (time), or no less of plain's time (ratio). In ratio at least half
- * the common period is kept: without that it comes to lists with all delays 0 and 1, where plain has nothing to seek. Writes the
- * list it has come to to OUT. Prints the nanoseconds of the plan (time), or ours / plain (ratio), at the start and at the end.
+/* Climbs to slow lists: climb time|ratio FILE SECONDS SEED OUT [COUNTS]. Starts from the list in FILE and changes it at random for so
+ * many seconds; a change is kept if the plan then takes no less (time), or no less of what plain takes (ratio). In ratio at least
+ * half the common period is kept: without that it comes to lists with all delays 0 and 1, where plain has nothing to seek. Writes
+ * the list it has come to to OUT. Prints what the plan takes (time), or ours / plain (ratio), at the start and at the end.
  *
  *     g++ -O3 -c bench/plain.cpp -o target/bench/plain.o
  *     gcc -O3 -Wall -Wextra -Ic bench/climb.c target/bench/plain.o target/staticlib/libplanner_c.a -lstdc++ -o target/bench/climb
- *     target/bench/climb time lists/P 60 1 target/bench/worst.list */
+ *     target/bench/climb time lists/P 60 1 target/bench/worst.list
+ *
+ * It goes by nanoseconds, or, with COUNTS, the file that callgrind writes to, by instructions:
+ *
+ *     valgrind --tool=callgrind --collect-atstart=no --callgrind-out-file=target/bench/counts \
+ *         target/bench/climb ratio lists/P 60 1 target/bench/worst.list target/bench/counts */
 #include <inttypes.h>
 #include <stdio.h>
 #include <stdlib.h>
 #include <string.h>
 #include <time.h>
+#include <valgrind/callgrind.h>
 
 #include "darnerflax.h"
 #include "plain.h"
@@ -64,26 +70,66 @@ static uint64_t now(void) {
     return (uint64_t)t.tv_sec * 1000000000u + (uint64_t)t.tv_nsec;
 }
 
-/* Nanoseconds of the fastest of so many calls. */
+static const char *counts; /* the file of callgrind, or NULL */
+
+static double started(void) {
+    if (counts == NULL)
+        return (double)now();
+    CALLGRIND_ZERO_STATS;
+    CALLGRIND_TOGGLE_COLLECT;
+    return 0;
+}
+
+/* The instructions that callgrind has counted, from its next file. */
+static double counted(void) {
+    static int files;
+    char name[4096], line[4096];
+    double most = -1;
+    snprintf(name, sizeof name, "%s.%d", counts, ++files);
+    FILE *file = fopen(name, "r");
+    while (file != NULL && fgets(line, sizeof line, file) != NULL)
+        if (strncmp(line, "summary:", 8) == 0 || strncmp(line, "totals:", 7) == 0)
+            most = strtod(strchr(line, ':') + 1, NULL);
+    if (file == NULL || most < 0) {
+        fprintf(stderr, "%s has no count\n", name);
+        exit(1);
+    }
+    fclose(file);
+    remove(name);
+    return most;
+}
+
+/* What was taken since the start. */
+static double taken(double start) {
+    if (counts == NULL)
+        return (double)now() - start;
+    CALLGRIND_TOGGLE_COLLECT;
+    CALLGRIND_DUMP_STATS;
+    return counted();
+}
+
+/* What the cheapest of so many calls takes; by instructions they are equal. */
 static double ours(size_t count, int calls) {
-    uint64_t best = UINT64_MAX, reply[DARNERFLAX_REPLY];
-    while (calls-- > 0) {
-        uint64_t start = now();
+    double best = 1e18;
+    uint64_t reply[DARNERFLAX_REPLY];
+    for (calls = counts == NULL ? calls : 1; calls > 0; calls--) {
+        double start = started();
         uint32_t refused = darnerflax_plan(words, count, answer, 2 * DARNERFLAX_MAX_REGISTERS, scratch, DARNERFLAX_MAX_SCRATCH, reply);
-        uint64_t took = now() - start;
+        double took = taken(start);
         if (refused != 0) {
             fprintf(stderr, "refused %" PRIu32 " at %" PRIu64 "\n", refused, reply[1]);
             exit(1);
         }
         best = took < best ? took : best;
     }
-    return (double)best;
+    return best;
 }
 
 static double plain(size_t count) {
-    uint64_t numbers[4], start = now();
+    uint64_t numbers[4];
+    double start = started();
     plain_plan(words, count, answer, numbers);
-    return (double)(now() - start);
+    return taken(start);
 }
 
 static uint32_t common(const struct net *net) {
@@ -271,7 +317,8 @@ static void change(struct net *net) {
 
 int main(int argc, char **argv) {
     static struct net best, next;
-    FILE *file = argc == 6 ? fopen(argv[2], "rb") : NULL;
+    FILE *file = argc == 6 || argc == 7 ? fopen(argv[2], "rb") : NULL;
+    counts = argc == 7 ? argv[6] : NULL;
     if (file == NULL)
         return 2;
     size_t count = fread(words, 4, DARNERFLAX_MAX_WORDS, file);
@@ -291,13 +338,13 @@ int main(int argc, char **argv) {
         if (common(&next) < least)
             continue;
         double found = cost(&next, by_ratio, 1);
-        if (found >= most) /* else more calls would not make it more */
+        if (found >= most && counts == NULL) /* else more calls would not make it more */
             found = cost(&next, by_ratio, 8);
         if (found >= most) {
             most = found;
             best = next;
             kept++;
-        } else if (tries % 256 == 0) {
+        } else if (tries % 256 == 0 && counts == NULL) {
             double again = cost(&best, by_ratio, 8);
             most = again < most ? again : most;
         }

@@ -201,18 +201,17 @@ def shapes():
 
 
 def hard():
-    """Lists made to be slow: for the planner as it was, and, found by bench/climb.c, for those that followed."""
+    """Lists made to be slow for the planner as it was."""
     yield 'nested', nested(512, 2048)
     yield 'nested, ascending', ascending(nested(512, 1022), 7)
     yield 'zig', zig(512, 2048)
     yield 'hubwave', hubwave(500, 2048)
+
+
+def found():
+    """Lists that bench/climb.c found to be slow, for this planner and for those before."""
     for file in sorted(FOUND.glob('*.list')):
         yield file.stem.replace('-', ' '), decode(file.read_bytes())
-
-
-def nothing_to_seek():
-    """Where the climb comes to if it may shorten the common period: delays of 0 and 1, every period 1."""
-    return decode(FOUND.with_name('nothing-to-seek.list').read_bytes())
 
 
 def growth():

@@ -154,21 +154,23 @@ def main():
     circuits = [Row(name, lists.circuit(name), limit) for name in lists.CIRCUITS]
     shapes = [Row(name, net, limit) for name, net in lists.shapes()]
     hard = [Row(name, net) for name, net in lists.hard()]
+    found = [Row(name, net) for name, net in lists.found()]
     by_pairs, by_registers = ([(size, Row(f'{size} {unit}', net)) for size, net in nets]
                               for unit, nets in zip(('pairs', 'registers'), lists.growth()))
     grown = [row for _, row in by_pairs + by_registers]
-    every = circuits + shapes + hard + grown
+    every = circuits + shapes + hard + grown + found
     more = [row for row in every if row.more() > 1]
     most_more = max(every, key=Row.more)
     ones = Row('delays of 0 and 1', lists.ones(512, 2048, 14))
-    idle = Row('nothing to seek', lists.nothing_to_seek())
+    few_ones = Row('delays of 0 and 1, 100 registers', lists.ones(100, 242, 14))
     faster = min(row.faster() for row in circuits + shapes if row.n >= 100)
-    usual, hardest = Summary(circuits + shapes), Summary(hard)
+    usual, hardest = Summary(circuits + shapes), Summary(hard + found)
     head = ('list', 'registers', 'pairs', 'common', 'free', 'two', 'ours, million instructions', 'before', 'plain')
     long_head = (*head, 'SAT', 'plain / ours', 'ours, µs', 'plain', 'SAT', 'cbc, s', 'glpsol, s', 'MILP / ours')
     summary = table(('lists', 'plain / ours, least', 'mean', 'geometric mean', 'ours / plain, most', 'mean', 'of the totals',
                      'ours, most million instructions'),
-                    [usual.line('circuits and shapes'), hardest.line('hard lists'), Summary(every).line('all, growth too')])
+                    [usual.line('circuits and shapes'), Summary(hard).line('hard lists'), Summary(grown).line('growth'),
+                     Summary(found).line('found by climbs'), Summary(every).line('all')])
     text = pathlib.Path(__file__).with_name('text.md').read_text()
     for key, value in {
         'MACHINE': machine(), 'LIMIT': limit, 'LEAST': f'{usual.least:.1f}', 'MEAN': f'{usual.mean:.0f}',
@@ -177,9 +179,10 @@ def main():
         'HARD_LEAST': f'{hardest.least:.1f}', 'HARD_LEAST_LIST': hardest.worst.name,
         'MORE': len(more), 'OF': sum(row.more() > 0 for row in every), 'MOST_MORE': f'{most_more.more():.2f}',
         'MOST_MORE_LIST': most_more.name, 'ONES': million(ones.count), 'ONES_PLAIN': million(ones.plain_count),
-        'IDLE': million(idle.count), 'IDLE_PLAIN': million(idle.plain_count), 'IDLE_N': idle.n, 'IDLE_M': idle.m,
+        'FEW_ONES': million(few_ones.count), 'FEW_ONES_PLAIN': million(few_ones.plain_count),
         'CIRCUITS': table(long_head, [row.line() for row in circuits]), 'SHAPES': table(long_head, [row.line() for row in shapes]),
         'HARD': table((*head, 'plain / ours', 'ours, µs', 'plain'), [row.short_line() for row in hard]),
+        'FOUND': table((*head, 'plain / ours', 'ours, µs', 'plain'), [row.short_line() for row in found]),
         'BY_PAIRS': growth('pairs', by_pairs), 'BY_REGISTERS': growth('registers', by_registers), 'STACK': stack(every),
     }.items():
         text = text.replace('{' + key + '}', str(value))
