@@ -1,3 +1,4 @@
 -- The laws, which other crates may cite too.
 pub mod DecimalLaws
 pub mod PutLaws
+pub mod SaidLaws

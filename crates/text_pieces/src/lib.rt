@@ -15,6 +15,12 @@ pub const NUMBER_WIDTH: usize = MAX_DIGITS + 1;
 // The most bytes of `refused ` and `at ` with their numbers.
 pub const REFUSED_WIDTH: usize = 8 + NUMBER_WIDTH + (3 + NUMBER_WIDTH);
 
+// What a program says, with the count of the bytes stored: a text, or a line that tells what is wrong. `specs/Saying.antt`.
+pub enum Said {
+    Text(usize),
+    Trouble(usize),
+}
+
 fn put_byte(text: &mut [u8], at: usize, byte: u8) -> usize
     requires { ⌜ at < length (now text) ⌝ }
     ensures { λ r. ⌜ Put 1 (byte ∷ []) (now (text .entry)) at (now (text .exit)) r ⌝ }
