@@ -5,6 +5,7 @@ use mathlib.Core.Bool.{cond}
 use mathlib.Core.List.{List, [], _∷_, _++_}
 use lib.Dec.{eqb}
 use Rattle.text_pieces.specs.Pieces.{letters, named, refusedAt, refusedWidth}
+use Rattle.text_pieces.specs.Saying.{Saying, trouble as sayTrouble}
 
 abbrev pub colon : ℕ
 colon = 58
@@ -26,7 +27,7 @@ unfoldable pub wordsFor : List (ℕ × String) → String → ℕ → List ℕ
 wordsFor [] others number = letters others
 wordsFor ((k, words) ∷ rows) others number = cond (eqb number k) (letters words) (wordsFor rows others number)
 
--- what a refusal means
+-- what a refusal means; 31 to 34: the causes of 3
 abbrev pub meanings : List (ℕ × String)
 meanings =
     (11, " the count of words or numbers is wrong\n")
@@ -37,6 +38,10 @@ meanings =
     ∷ (16, " a least delay is above its greatest\n")
     ∷ (17, " the sum at the end is wrong: the list is damaged\n")
     ∷ (3, " period, offset or timing out of range, or not one timing for each register\n")
+    ∷ (31, " the period is not from 1 to 1000000\n")
+    ∷ (32, " the offset is above 1000000\n")
+    ∷ (33, " not one timing for each register\n")
+    ∷ (34, " a timing is above 511000000\n")
     ∷ []
 
 unfoldable pub meaning : ℕ → List ℕ
@@ -56,8 +61,17 @@ troubles =
 unfoldable pub trouble : ℕ → List ℕ
 trouble = wordsFor troubles " the text is longer than 131072 bytes\n"
 
-unfoldable pub refusalLine : ℕ → ℕ → List ℕ
-refusalLine number place = refusedAt number place colon ++ meaning number
+-- the line of a refusal, with the words for its cause
+unfoldable pub causedLine : ℕ → ℕ → ℕ → List ℕ
+causedLine number place cause = refusedAt number place colon ++ meaning cause
+
+-- the line of a refusal that has one cause
+abbrev pub refusalLine : ℕ → ℕ → List ℕ
+refusalLine number place = causedLine number place number
+
+-- the same, as what a program says
+abbrev pub refusedSaying : ℕ → ℕ → Saying
+refusedSaying number place = sayTrouble (refusalLine number place)
 
 unfoldable pub faultLine : ℕ → ℕ → List ℕ
 faultLine fault line = named (letters "line ") line colon ++ trouble fault

@@ -3,7 +3,7 @@
 ghost use Prim.Native.Nat.{_+_, _≤_};
 ghost use lib.ListN.{length};
 ghost use Rattle.text_pieces.specs.Pieces.{Put};
-ghost use Rattle.refusal_text.specs.RefusalText.{wordsWidth, lineWidth, meaning, trouble, refusalLine, faultLine};
+ghost use Rattle.refusal_text.specs.RefusalText.{wordsWidth, lineWidth, meaning, trouble, causedLine, refusalLine, faultLine};
 use text_pieces::REFUSED_WIDTH;
 use text_pieces::put_bytes;
 use text_pieces::put_named;
@@ -48,6 +48,10 @@ fn put_meaning(text: &mut [u8], at: usize, number: u32) -> usize
             at,
             b" period, offset or timing out of range, or not one timing for each register\n",
         ),
+        31 => put_bytes(text, at, b" the period is not from 1 to 1000000\n"),
+        32 => put_bytes(text, at, b" the offset is above 1000000\n"),
+        33 => put_bytes(text, at, b" not one timing for each register\n"),
+        34 => put_bytes(text, at, b" a timing is above 511000000\n"),
         _ => put_bytes(text, at, b" a buffer is too short\n"),
     }
 }
@@ -83,13 +87,21 @@ fn put_trouble(text: &mut [u8], at: usize, fault: u32) -> usize
     }
 }
 
-// The line of a refusal.
+// The line of a refusal, with the words for its cause.
+pub fn put_caused(text: &mut [u8], number: u32, place: usize, cause: u32) -> usize
+    requires { ⌜ lineWidth ≤ length (now text) ⌝ }
+    ensures { λ r. ⌜ Put lineWidth (causedLine number place cause) (now (text .entry)) 0 (now (text .exit)) r ⌝ }
+{
+    let a = put_refused(text, number, place, b':');
+    put_meaning(text, a, cause)
+}
+
+// The line of a refusal that has one cause.
 pub fn put_refusal(text: &mut [u8], number: u32, place: usize) -> usize
     requires { ⌜ lineWidth ≤ length (now text) ⌝ }
     ensures { λ r. ⌜ Put lineWidth (refusalLine number place) (now (text .entry)) 0 (now (text .exit)) r ⌝ }
 {
-    let a = put_refused(text, number, place, b':');
-    put_meaning(text, a, number)
+    put_caused(text, number, place, number)
 }
 
 // The line for a text that cannot be read.
