@@ -17,9 +17,12 @@ use Rattle.split.specs.Splitting.{splitCallChecks, splitting, splitReply, Split
 use Rattle.split.specs.declared.Splitting.{Splitting}
 use Rattle.split.specs.declared.Splitting.the-variants.{Split, NoSplit, Refused as NotSplit}
 use Rattle.text_pieces.specs.Pieces.{Put, letters}
-use Rattle.text_pieces.proofs.PutLaws.{put-within}
-use Rattle.refusal_text.specs.RefusalText.{lineWidth, refusalLine}
-use Rattle.schedule_text.specs.ScheduleText.{timingWidth, freeWidth, splitWidth, timingLine, timingLines, schedulePlaces, freeLine, freeDone, splitDone}
+use Rattle.text_pieces.specs.Saying.{SaidAs}
+use Rattle.text_pieces.specs.declared.Said.the-variants.{Text, Trouble}
+use Rattle.text_pieces.proofs.SaidLaws.{said-text, said-trouble}
+use Rattle.refusal_text.specs.RefusalText.{lineWidth, causedLine, refusalLine, refusedSaying}
+use Rattle.schedule_text.specs.ScheduleText.{timingWidth, freeWidth, splitWidth, timingLine, timingLines, schedulePlaces, freeLine, freeSaid}
+use Rattle.schedule_text.specs.ScheduleText.{splitCause, splitRefused, splitSaid}
 
 lines-over : (n k : ℕ) (xs : List ℕ) → timingLines n (over xs (zeros k)) ≡ timingLines n xs
 unfolding timingLines
@@ -27,7 +30,7 @@ lines-over n k xs = run-same (timingLine (over xs (zeros k))) (timingLine xs) n 
 
 -- ---- the free schedule
 
-free-same : (n k : ℕ) (xs ys : List ℕ) → freeDone n xs (over ys (zeros k)) ≡ freeDone n xs ys
+free-same : (n k : ℕ) (xs ys : List ℕ) → freeSaid n xs (over ys (zeros k)) ≡ freeSaid n xs ys
 free-same n k xs ys = rw (lines-over n k ys)
 
 -- the call with room for the largest list
@@ -40,10 +43,10 @@ module _ {ws now : List ℕ} {r : FreeAnswer} (a : FreeAs ws (zeros maxRegisters
 
   pub free-refused : {number place next : ℕ} {text text′ : List ℕ} → r ≡ Refused number place
       → Put lineWidth (refusalLine number place) text 0 text′ next
-      → Put schedulePlaces (told refusalLine (freeDone (registers ws)) (freeOf ws)) text 0 text′ next
+      → SaidAs schedulePlaces (told refusedSaying (freeSaid (registers ws)) (freeOf ws)) text text′ (Trouble next)
   unfolding freeReply
   free-refused e put =
-      rw (told-refusal refusalLine (freeDone (registers ws)) (freeOf ws) (rw e at free-reply)) (put-within put (omega (arith, put .most)))
+      rw (told-refusal refusedSaying (freeSaid (registers ws)) (freeOf ws) (rw e at free-reply)) (said-trouble put (omega arith))
 
   module _ {c f : ℕ} (e : r ≡ Periods c f) where
     free-told : numbers (c ∷ f ∷ []) ≡ replyOf (freeOf ws)
@@ -56,17 +59,17 @@ module _ {ws now : List ℕ} {r : FreeAnswer} (a : FreeAs ws (zeros maxRegisters
 
     pub free-periods : {n next : ℕ} {text text′ : List ℕ} → n ≡ registers ws
         → Put (freeWidth + timingWidth * n) (freeLine c f ++ timingLines n now) text 0 text′ next
-        → Put schedulePlaces (told refusalLine (freeDone (registers ws)) (freeOf ws)) text 0 text′ next
+        → SaidAs schedulePlaces (told refusedSaying (freeSaid (registers ws)) (freeOf ws)) text text′ (Text next)
     free-periods {n} h put =
         let few : n ≤ maxRegisters = omega (arith, free-in .most) in
         let stored : now ≡ bufferAfter (freeOf ws) (zeros maxRegisters) = rw (zeros-size maxRegisters) at (a .stored) in
         let same = free-same (registers ws) maxRegisters in
-        rw (told-numbers refusalLine (freeDone (registers ws)) (zeros maxRegisters) same (freeOf ws) free-told, ← stored, ← h)
-        (put-within put (omega (arith, put .most)))
+        rw (told-numbers refusedSaying (freeSaid (registers ws)) (zeros maxRegisters) same (freeOf ws) free-told, ← stored, ← h)
+        (said-text put (omega arith))
 
 -- ---- a split
 
-split-same : (n k : ℕ) (xs ys : List ℕ) → splitDone n xs (over ys (zeros k)) ≡ splitDone n xs ys
+split-same : (n k : ℕ) (xs ys : List ℕ) → splitSaid n xs (over ys (zeros k)) ≡ splitSaid n xs ys
 split-same n k xs ys = rw (lines-over n k ys)
 
 -- the call with room for the largest list
@@ -78,23 +81,23 @@ module _ {ws now scratch′ : List ℕ} {t s : ℕ} {r : Splitting} (a : SplitAs
   split-reply = rw (zeros-size maxRegisters, zeros-size maxScratch) at (a .reply)
 
   pub split-refused : {number place next : ℕ} {text text′ : List ℕ} → r ≡ NotSplit number place
-      → Put lineWidth (refusalLine number place) text 0 text′ next
-      → Put schedulePlaces (told refusalLine (splitDone (registers ws)) (splitOf ws t s)) text 0 text′ next
+      → Put lineWidth (causedLine number place (splitCause t number)) text 0 text′ next
+      → SaidAs schedulePlaces (told (splitRefused t) (splitSaid (registers ws)) (splitOf ws t s)) text text′ (Trouble next)
   unfolding splitReply
   split-refused e put =
-      rw (told-refusal refusalLine (splitDone (registers ws)) (splitOf ws t s) (rw e at split-reply)) (put-within put (omega (arith, put .most)))
+      rw (told-refusal (splitRefused t) (splitSaid (registers ws)) (splitOf ws t s) (rw e at split-reply)) (said-trouble put (omega arith))
 
-  split-by : {xs : List ℕ} → numbers xs ≡ splitReply r → told refusalLine (splitDone (registers ws)) (splitOf ws t s)
-      ≡ splitDone (registers ws) xs now
+  split-by : {xs : List ℕ} → numbers xs ≡ splitReply r → told (splitRefused t) (splitSaid (registers ws)) (splitOf ws t s)
+      ≡ splitSaid (registers ws) xs now
   split-by e =
       let stored : now ≡ bufferAfter (splitOf ws t s) (zeros maxRegisters) = rw (zeros-size maxRegisters, zeros-size maxScratch) at (a .stored) in
       let same = split-same (registers ws) maxRegisters in
-      rw stored (told-numbers refusalLine (splitDone (registers ws)) (zeros maxRegisters) same (splitOf ws t s) (e ∙ split-reply))
+      rw stored (told-numbers (splitRefused t) (splitSaid (registers ws)) (zeros maxRegisters) same (splitOf ws t s) (e ∙ split-reply))
 
   pub split-none : {next : ℕ} {text text′ : List ℕ} → r ≡ NoSplit → Put 9 (letters "no split\n") text 0 text′ next
-      → Put schedulePlaces (told refusalLine (splitDone (registers ws)) (splitOf ws t s)) text 0 text′ next
+      → SaidAs schedulePlaces (told (splitRefused t) (splitSaid (registers ws)) (splitOf ws t s)) text text′ (Text next)
   unfolding splitReply
-  split-none e put = rw (split-by {xs = 0 ∷ []} (rw e)) (put-within put (omega arith))
+  split-none e put = rw (split-by {xs = 0 ∷ []} (rw e)) (said-text put (omega arith))
 
   module _ (e : r ≡ Split) where
     split-told : numbers (1 ∷ []) ≡ splitReply r
@@ -107,7 +110,7 @@ module _ {ws now scratch′ : List ℕ} {t s : ℕ} {r : Splitting} (a : SplitAs
 
     pub split-found : {n next : ℕ} {text text′ : List ℕ} → n ≡ registers ws
         → Put (splitWidth + timingWidth * n) (letters "split\n" ++ timingLines n now) text 0 text′ next
-        → Put schedulePlaces (told refusalLine (splitDone (registers ws)) (splitOf ws t s)) text 0 text′ next
+        → SaidAs schedulePlaces (told (splitRefused t) (splitSaid (registers ws)) (splitOf ws t s)) text text′ (Text next)
     split-found {n} h put =
         let few : n ≤ maxRegisters = omega (arith, split-in .most) in
-        rw (split-by {xs = 1 ∷ []} split-told, ← h) (put-within put (omega (arith, put .most)))
+        rw (split-by {xs = 1 ∷ []} split-told, ← h) (said-text put (omega arith))

@@ -1,17 +1,18 @@
 -- What is printed for the free schedule of a list, and for a split at a period and an offset.
 use Prim.Native.Nat.{ℕ, _+_, _*_}
-use mathlib.Core.Bool.{cond}
+use mathlib.Core.Bool.{_||_, cond}
 use mathlib.Core.List.{List, _++_}
-use lib.Dec.{eqb}
+use lib.Dec.{ltb, eqb}
 use lib.ListN.{getD}
-use Rattle.timing.specs.Limits.{maxRegisters, maxScratch}
+use Rattle.timing.specs.Limits.{maxRegisters, maxPeriod, maxScratch}
 use Rattle.buffers.specs.Run.{run}
 use Rattle.refusals.specs.Reply.{told}
 use Rattle.list_format.specs.Lists.{registers}
 use Rattle.free_schedule.specs.FreeCall.{freeing}
 use Rattle.split.specs.Splitting.{splitting}
 use Rattle.text_pieces.specs.Pieces.{letters, number, named, space, newline, numberWidth}
-use Rattle.refusal_text.specs.RefusalText.{lineWidth, refusalLine}
+use Rattle.text_pieces.specs.Saying.{Saying, text, trouble}
+use Rattle.refusal_text.specs.RefusalText.{lineWidth, causedLine, refusedSaying}
 use Rattle.list_bytes.specs.ListBytes.{listOf}
 
 -- a register and its timing
@@ -49,9 +50,12 @@ freeLine common free = named (letters "common ") common space ++ named (letters 
 abbrev pub freeDone : ℕ → List ℕ → List ℕ → List ℕ
 freeDone n returned stored = freeLine (getD returned 0 0) (getD returned 1 0) ++ timingLines n stored
 
--- the text for the bytes of a list
-abbrev pub freeText : List ℕ → List ℕ
-freeText bs = told refusalLine (freeDone (registers (listOf bs))) (freeing (listOf bs) maxRegisters)
+abbrev pub freeSaid : ℕ → List ℕ → List ℕ → Saying
+freeSaid n returned stored = text (freeDone n returned stored)
+
+-- what is said for the bytes of a list
+abbrev pub freeText : List ℕ → Saying
+freeText bs = told refusedSaying (freeSaid (registers (listOf bs))) (freeing (listOf bs) maxRegisters)
 
 -- ---- a split
 
@@ -59,7 +63,17 @@ freeText bs = told refusalLine (freeDone (registers (listOf bs))) (freeing (list
 abbrev pub splitDone : ℕ → List ℕ → List ℕ → List ℕ
 splitDone n returned stored = cond (eqb (getD returned 0 0) 0) (letters "no split\n") (letters "split\n" ++ timingLines n stored)
 
--- the text for the bytes of a list
-abbrev pub splitText : List ℕ → ℕ → ℕ → List ℕ
+abbrev pub splitSaid : ℕ → List ℕ → List ℕ → Saying
+splitSaid n returned stored = text (splitDone n returned stored)
+
+-- what a refusal is caused by: of 3, the period (31) or the offset (32)
+unfoldable pub splitCause : ℕ → ℕ → ℕ
+splitCause period number = cond (eqb number 3) (cond (eqb period 0 || ltb maxPeriod period) 31 32) number
+
+abbrev pub splitRefused : ℕ → ℕ → ℕ → Saying
+splitRefused period number place = trouble (causedLine number place (splitCause period number))
+
+-- what is said for the bytes of a list
+abbrev pub splitText : List ℕ → ℕ → ℕ → Saying
 splitText bs period offset =
-    told refusalLine (splitDone (registers (listOf bs))) (splitting (listOf bs) period offset maxRegisters maxScratch)
+    told (splitRefused period) (splitSaid (registers (listOf bs))) (splitting (listOf bs) period offset maxRegisters maxScratch)

@@ -3,23 +3,27 @@
 ghost use Prim.Native.Nat.{_+_, _*_, _≤_};
 ghost use lib.ListN.{length};
 ghost use mathlib.Core.List.{_++_};
+ghost use mathlib.Core.Path.{_≡_};
 ghost use Rattle.timing.specs.Limits.{maxRegisters, maxScratch};
 ghost use Rattle.text_pieces.specs.Pieces.{Put, letters, number, space, newline};
 ghost use Rattle.refusals.specs.Reply.{told};
 ghost use Rattle.list_format.specs.Lists.{registers};
-ghost use Rattle.refusal_text.specs.RefusalText.{refusalLine};
+ghost use Rattle.text_pieces.specs.Saying.{SaidAs};
+ghost use Rattle.refusal_text.specs.RefusalText.{lineWidth, causedLine, refusedSaying};
 ghost use Rattle.free_schedule.specs.FreeCall.{freeing};
 ghost use Rattle.split.specs.Splitting.{splitting};
-ghost use Rattle.schedule_text.specs.ScheduleText.{timingWidth, freeWidth, splitWidth, schedulePlaces, timingLines, freeLine, freeDone};
-ghost use Rattle.schedule_text.specs.ScheduleText.{freeText, splitDone, splitText};
+ghost use Rattle.schedule_text.specs.ScheduleText.{timingWidth, freeWidth, splitWidth, schedulePlaces, timingLines, freeLine, freeSaid};
+ghost use Rattle.schedule_text.specs.ScheduleText.{freeText, splitCause, splitRefused, splitSaid, splitText};
 use free_schedule::FreeAnswer;
 use list_bytes::MAX_WORDS;
 use refusal_text::LINE_WIDTH;
 use split::Splitting;
 use text_pieces::NUMBER_WIDTH;
+use text_pieces::Said;
 use text_pieces::put_bytes;
 use text_pieces::put_named;
 use text_pieces::put_number;
+use timing::MAX_PERIOD;
 use timing::MAX_REGISTERS;
 use timing::MAX_SCRATCH;
 
@@ -68,27 +72,30 @@ fn put_free(text: &mut [u8], common: u32, free: u32, timings: &[u32], n: usize) 
 }
 
 // The free schedule for a run of words.
-fn put_free_words(text: &mut [u8], words: &[u32]) -> usize
+fn put_free_words(text: &mut [u8], words: &[u32]) -> Said
     requires { ⌜ schedulePlaces ≤ length (now text) ⌝ }
     ensures { λ z. ⌜
-        Put schedulePlaces (told refusalLine (freeDone (registers (now (words .entry)))) (freeing (now (words .entry)) maxRegisters))
-        (now (text .entry)) 0 (now (text .exit)) z
+        SaidAs schedulePlaces (told refusedSaying (freeSaid (registers (now (words .entry)))) (freeing (now (words .entry)) maxRegisters))
+        (now (text .entry)) (now (text .exit)) z
         ⌝ }
 {
     let mut answer = [0u32; REGISTER_PLACES];
     match free_schedule::free(words, &mut answer) {
-        FreeAnswer::Refused(number, place) => refusal_text::put_refusal(text, number, place),
+        FreeAnswer::Refused(number, place) => {
+            let size = refusal_text::put_refusal(text, number, place);
+            Said::Trouble(size)
+        }
         FreeAnswer::Periods(common, free) => {
             let n = words::head_registers(words[0]) as usize;
-            put_free(text, common, free, &answer, n)
+            let size = put_free(text, common, free, &answer, n);
+            Said::Text(size)
         }
     }
 }
 
-// The free schedule of the list whose bytes are given, as text in the first places of `text`; later places keep their contents.
-// The count of its bytes is returned.
-pub fn free_text(bytes: &[u8], text: &mut [u8; TEXT_PLACES]) -> usize
-    ensures { λ z. ⌜ Put schedulePlaces (freeText (now (bytes .entry))) (now (text .entry)) 0 (now (text .exit)) z ⌝ }
+// The free schedule of the list whose bytes are given, or what is wrong, in the first places of `text`; later places keep their contents.
+pub fn free_text(bytes: &[u8], text: &mut [u8; TEXT_PLACES]) -> Said
+    ensures { λ z. ⌜ SaidAs schedulePlaces (freeText (now (bytes .entry))) (now (text .entry)) (now (text .exit)) z ⌝ }
 {
     let mut words = [0u32; MAX_WORDS];
     let count = list_bytes::load(bytes, &mut words);
@@ -107,31 +114,60 @@ fn put_split(text: &mut [u8], timings: &[u32], n: usize) -> usize
     put_timings(text, at, timings, n)
 }
 
+// What a refusal is caused by.
+fn split_cause(period: u32, number: u32) -> u32
+    ensures { λ r. ⌜ r ≡ splitCause period number ⌝ }
+{
+    if number != 3 {
+        return number;
+    }
+    if period == 0 {
+        return 31;
+    }
+    if period > MAX_PERIOD { 31 } else { 32 }
+}
+
+// The line of a refusal, with its cause.
+fn put_refused_split(text: &mut [u8], period: u32, number: u32, place: usize) -> usize
+    requires { ⌜ schedulePlaces ≤ length (now text) ⌝ }
+    ensures { λ r. ⌜ Put lineWidth (causedLine number place (splitCause period number)) (now (text .entry)) 0 (now (text .exit)) r ⌝ }
+{
+    let cause = split_cause(period, number);
+    refusal_text::put_caused(text, number, place, cause)
+}
+
 // The split for a run of words.
-fn put_split_words(text: &mut [u8], words: &[u32], period: u32, offset: u32) -> usize
+fn put_split_words(text: &mut [u8], words: &[u32], period: u32, offset: u32) -> Said
     requires { ⌜ schedulePlaces ≤ length (now text) ⌝ }
     ensures { λ z. ⌜
-        Put schedulePlaces
-        (told refusalLine (splitDone (registers (now (words .entry)))) (splitting (now (words .entry)) period offset maxRegisters maxScratch))
-        (now (text .entry)) 0 (now (text .exit)) z
+        SaidAs schedulePlaces
+        (told (splitRefused period) (splitSaid (registers (now (words .entry)))) (splitting (now (words .entry)) period offset maxRegisters maxScratch))
+        (now (text .entry)) (now (text .exit)) z
         ⌝ }
 {
     let mut answer = [0u32; REGISTER_PLACES];
     let mut scratch = [0u32; MAX_SCRATCH];
     match split::split(words, period, offset, &mut answer, &mut scratch) {
-        Splitting::Refused(number, place) => refusal_text::put_refusal(text, number, place),
-        Splitting::NoSplit => put_bytes(text, 0, b"no split\n"),
+        Splitting::Refused(number, place) => {
+            let size = put_refused_split(text, period, number, place);
+            Said::Trouble(size)
+        }
+        Splitting::NoSplit => {
+            let size = put_bytes(text, 0, b"no split\n");
+            Said::Text(size)
+        }
         Splitting::Split => {
             let n = words::head_registers(words[0]) as usize;
-            put_split(text, &answer, n)
+            let size = put_split(text, &answer, n);
+            Said::Text(size)
         }
     }
 }
 
-// The first split at a period and an offset of the list whose bytes are given, as text in the first places of `text`; later places
-// keep their contents. The count of its bytes is returned.
-pub fn split_text(bytes: &[u8], period: u32, offset: u32, text: &mut [u8; TEXT_PLACES]) -> usize
-    ensures { λ z. ⌜ Put schedulePlaces (splitText (now (bytes .entry)) period offset) (now (text .entry)) 0 (now (text .exit)) z ⌝ }
+// The first split at a period and an offset of the list whose bytes are given, or what is wrong, in the first places of `text`; later
+// places keep their contents.
+pub fn split_text(bytes: &[u8], period: u32, offset: u32, text: &mut [u8; TEXT_PLACES]) -> Said
+    ensures { λ z. ⌜ SaidAs schedulePlaces (splitText (now (bytes .entry)) period offset) (now (text .entry)) (now (text .exit)) z ⌝ }
 {
     let mut words = [0u32; MAX_WORDS];
     let count = list_bytes::load(bytes, &mut words);

@@ -24,7 +24,7 @@ put-split-requires c κs =
 returns : tie.Need-returns
 returns c =
     let w = c .before .before .before .before .before in
-    split-refused (w .before .before .before .before .split .ensures) (w .number .given .1) (c .before .before .put-refusal .ensures)
+    split-refused (w .before .before .before .before .split .ensures) (w .number .given .1) (c .before .before .put-refused-split .ensures)
 
 returns-2 : tie.Need-returns-2
 returns-2 c =
