@@ -1,7 +1,7 @@
 -- The words of a delay list that came as bytes.
 use Prim.Native.Nat.{ℕ, _+_, _*_, _/_, _%_}
-use mathlib.Core.Bool.{cond}
-use mathlib.Core.List.{List, []}
+use mathlib.Core.Bool.{Bool, true, false, _||_, cond}
+use mathlib.Core.List.{List, [], _∷_}
 use mathlib.Core.Path.{_≡_}
 use lib.Dec.{ltb, eqb}
 use lib.ListN.{length}
@@ -25,3 +25,17 @@ listOf bs = cond (ltb maxBytes (length bs)) [] (cond (eqb (length bs % 4) 0) (to
 pub record LoadedAs (bs was now : List ℕ) (count : ℕ) : Type 0 where
   pub size : count ≡ length (listOf bs)
   pub words : now ≡ over (listOf bs) was
+
+-- ---- a text in place of a list
+
+-- a tab, a newline, a carriage return, a space, the sign of a comment, or a comma
+unfoldable pub blankByte : ℕ → Bool
+blankByte b = eqb b 9 || (eqb b 10 || (eqb b 13 || (eqb b 32 || (eqb b 35 || eqb b 44))))
+
+-- what a text can begin with: one of these, a digit, or the first byte of a byte order mark
+unfoldable pub textByte : ℕ → Bool
+textByte b = cond (ltb b 48) (blankByte b) (cond (ltb 57 b) (eqb b 239) true)
+
+unfoldable pub looksLikeText : List ℕ → Bool
+looksLikeText [] = false
+looksLikeText (b ∷ bs) = textByte b

@@ -1,6 +1,7 @@
 // The words of a delay list that came as bytes, four to a word.
 // The contract cites `specs/ListBytes.antt`.
-ghost use Rattle.list_bytes.specs.ListBytes.{LoadedAs};
+ghost use mathlib.Core.Path.{_≡_};
+ghost use Rattle.list_bytes.specs.ListBytes.{LoadedAs, blankByte, textByte, looksLikeText};
 use timing::MAX_PAIRS;
 
 // The words and the bytes of the longest list.
@@ -23,4 +24,39 @@ pub fn load(bytes: &[u8], words: &mut [u32; MAX_WORDS]) -> usize
     let count = size / 4;
     words::to_words(bytes, count, words);
     count
+}
+
+// Whether it is a tab, a newline, a carriage return, a space, a comma or the sign of a comment.
+fn is_blank(byte: u8) -> bool
+    ensures { λ r. ⌜ r ≡ blankByte byte ⌝ }
+{
+    match byte {
+        9 => true,
+        10 => true,
+        13 => true,
+        32 => true,
+        35 => true,
+        44 => true,
+        _ => false,
+    }
+}
+
+// Whether a text can begin with the byte.
+fn is_text_byte(byte: u8) -> bool
+    ensures { λ r. ⌜ r ≡ textByte byte ⌝ }
+{
+    if byte < b'0' {
+        return is_blank(byte);
+    }
+    if byte > b'9' { byte == 0xEF } else { true }
+}
+
+// Whether bytes that are refused as a list look like the text of one.
+pub fn looks_like_text(bytes: &[u8]) -> bool
+    ensures { λ r. ⌜ r ≡ looksLikeText (now (bytes .entry)) ⌝ }
+{
+    if bytes.len() == 0 {
+        return false;
+    }
+    is_text_byte(bytes[0])
 }

@@ -1,4 +1,4 @@
-// Prints the plan of the delay list on standard input.
+// Prints the plan of the delay list in the file that is named, or on standard input.
 fn main() {
-    print_plan::print_plan();
+    print_plan::plan(libc::STDOUT_FILENO, libc::STDERR_FILENO);
 }

@@ -3,6 +3,7 @@
 // so that one that is too long is known by its length.
 ghost use mathlib.Core.Path.{_≡_};
 ghost use lib.ListN.{take};
+use libc::PATH_MAX;
 use libc::STDIN_FILENO;
 use list_bytes::MAX_BYTES;
 use scan::TEXT_BYTES;
@@ -32,6 +33,13 @@ pub fn text_received<'a>(bytes: &'a [u8; TEXT_BYTES + 1], count: usize) -> &'a [
     ensures { λ r. ⌜ now r ≡ take count (now (bytes .entry)) ⌝ }
 {
     first_of(bytes, count)
+}
+
+// A file's name.
+pub fn name_of<'a>(path: &'a [u8; PATH_MAX], size: usize) -> &'a [u8]
+    ensures { λ r. ⌜ now r ≡ take size (now (path .entry)) ⌝ }
+{
+    first_of(path, size)
 }
 
 // ---- telling what failed
@@ -213,9 +221,9 @@ fn is_name(name: &[u8]) -> bool {
 }
 
 // The file that argument k names.
-pub fn open(k: usize, path: &mut [u8; libc::PATH_MAX], errors: i32) -> Source {
+pub fn open(k: usize, path: &mut [u8; PATH_MAX], errors: i32) -> Source {
     let size = os::arg(k, path);
-    let name = first_of(path, size);
+    let name = name_of(path, size);
     if !is_name(name) {
         return Source::Misused;
     }
@@ -228,7 +236,7 @@ pub fn open(k: usize, path: &mut [u8; libc::PATH_MAX], errors: i32) -> Source {
 }
 
 // Where a program with so many arguments of its own reads from: the file that one more argument names, or standard input.
-pub fn input_of(own: usize, path: &mut [u8; libc::PATH_MAX], errors: i32) -> Source {
+pub fn input_of(own: usize, path: &mut [u8; PATH_MAX], errors: i32) -> Source {
     let count = os::arg_count();
     if help_asked(count) {
         return Source::Help;
