@@ -5,11 +5,41 @@ use libc::STDOUT_FILENO;
 use print_plan::print_plan;
 
 fn main() {
-    print_plan(os::open_read(b"refused"), b"refused", STDOUT_FILENO, STDOUT_FILENO);
-    print_plan(os::open_read(b"P.txt"), b"P.txt", STDOUT_FILENO, STDOUT_FILENO);
-    print_plan(os::open_read(b"too_long"), b"too_long", STDOUT_FILENO, STDOUT_FILENO);
-    print_plan(os::open_read(b"."), b"the directory", STDOUT_FILENO, STDOUT_FILENO);
+    print_plan(
+        os::open_read(b"refused"),
+        b"refused",
+        STDOUT_FILENO,
+        STDOUT_FILENO,
+    );
+    print_plan(
+        os::open_read(b"P.txt"),
+        b"P.txt",
+        STDOUT_FILENO,
+        STDOUT_FILENO,
+    );
+    print_plan(
+        os::open_read(b"too_long"),
+        b"too_long",
+        STDOUT_FILENO,
+        STDOUT_FILENO,
+    );
+    print_plan(
+        os::open_read(b"."),
+        b"the directory",
+        STDOUT_FILENO,
+        STDOUT_FILENO,
+    );
     print_plan(-1, b"", STDOUT_FILENO, STDOUT_FILENO);
-    print_plan(os::open_read(b"P"), b"P", os::open_read(b"P"), STDOUT_FILENO);
-    print_plan(os::open_read(b"largest"), b"largest", STDOUT_FILENO, STDOUT_FILENO);
+    print_plan(
+        os::open_read(b"P"),
+        b"P",
+        os::open_read(b"P"),
+        STDOUT_FILENO,
+    );
+    print_plan(
+        os::open_read(b"largest"),
+        b"largest",
+        STDOUT_FILENO,
+        STDOUT_FILENO,
+    );
 }

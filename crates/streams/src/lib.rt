@@ -2,7 +2,10 @@
 // The contracts say that what was received is handed on whole: the buffers are a byte longer than the longest list and the longest text,
 // so that one that is too long is known by its length.
 ghost use mathlib.Core.Path.{_≡_};
-ghost use lib.ListN.{take};
+ghost use Prim.Native.Nat.{_≤_, _<_};
+ghost use lib.ListN.{length, take};
+ghost use Rattle.list_bytes.specs.ListBytes.{maxBytes};
+ghost use Rattle.scan.specs.Scan.{textBytes};
 use libc::PATH_MAX;
 use libc::STDIN_FILENO;
 use list_bytes::MAX_BYTES;
@@ -21,16 +24,18 @@ pub fn first_of<'a>(bytes: &'a [u8], count: usize) -> &'a [u8]
     }
 }
 
-// The bytes of a list.
+// The bytes of a list. A buffer that was filled is too long to be one.
 pub fn list_received<'a>(bytes: &'a [u8; MAX_BYTES + 1], count: usize) -> &'a [u8]
-    ensures { λ r. ⌜ now r ≡ take count (now (bytes .entry)) ⌝ }
+    ensures is { λ r. ⌜ now r ≡ take count (now (bytes .entry)) ⌝ }
+    ensures cut { λ r. ⌜ (length (now (bytes .entry)) ≤ count → maxBytes < length (now r)) ⌝ }
 {
     first_of(bytes, count)
 }
 
-// The bytes of a text.
+// The bytes of a text. A buffer that was filled is too long to be one.
 pub fn text_received<'a>(bytes: &'a [u8; TEXT_BYTES + 1], count: usize) -> &'a [u8]
-    ensures { λ r. ⌜ now r ≡ take count (now (bytes .entry)) ⌝ }
+    ensures is { λ r. ⌜ now r ≡ take count (now (bytes .entry)) ⌝ }
+    ensures cut { λ r. ⌜ (length (now (bytes .entry)) ≤ count → textBytes < length (now r)) ⌝ }
 {
     first_of(bytes, count)
 }

@@ -1,0 +1,2 @@
+-- The laws of the proofs here.
+pub mod ReceivedLaws
