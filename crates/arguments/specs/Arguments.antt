@@ -1,4 +1,4 @@
--- An argument of a program: one decimal number, with spaces or newlines around it or not, and nothing else.
+-- An argument of a program: one decimal number, with blanks, newlines or comments around it or not, and nothing else.
 use Prim.Native.Nat.{ℕ}
 use mathlib.Core.Bool.{false, cond}
 use mathlib.Core.List.{List}

@@ -51,7 +51,7 @@ foundLine ws (k ∷ rest) = brokenLine ws k (getD rest 0 0)
 unfoldable pub checkedLine : List ℕ → ℕ → List ℕ → List ℕ
 checkedLine ws period xs = told refusalLine (λ returned stored. foundLine ws returned) (checking ws period xs)
 
--- from the numbers xs of the text of a schedule: a fault in the text comes first. Faults 3 and 4, of the lines of a list, do not occur:
+-- from the numbers xs of the text of a schedule: a fault in the text comes first. Faults 3, 4 and 8, of the lines of a list, do not occur:
 -- `no-line-fault` in scan's proofs
 unfoldable pub scannedLine : List ℕ → ℕ → Scanned → List ℕ → List ℕ
 scannedLine ws period (Faulty fault line) xs = faultLine fault line

@@ -24,10 +24,11 @@ use Rattle.text_pieces.specs.Pieces.{number, space, newline}
 use Rattle.text_pieces.proofs.DecimalLaws.{decimal-few}
 use Rattle.scan.specs.declared.State.{State}
 use Rattle.scan.specs.declared.Scanned.the-variants.{Numbers, Faulty}
-use Rattle.scan.specs.Scan.{maxNumbers, maxValue, textBytes, start, numberEnded, lineFault, finished}
-use Rattle.scan.specs.Scan.{kept, after, ended, last, scannedNumbers, scanned, storedOf}
-use Rattle.scan.proofs.CaseLaws.{line-next, finish-some, blank-line, pair-line}
-use Rattle.scan.proofs.ReadsLaws.{Reads, reads-none, reads-then, at, reads-space, reads-newline}
+use Rattle.scan.specs.Scan.{maxNumbers, maxValue, textBytes, start, isSecond, numberEnded, lineFault, finished}
+use Rattle.scan.specs.Scan.{kept, after, ended, last, scannedNumbers, markSize, scanned, storedOf}
+use Rattle.scan.proofs.CaseLaws.{end-kept, finish-ends, blank-line, pair-line}
+use Rattle.scan.proofs.ScanLaws.{no-mark}
+use Rattle.scan.proofs.ReadsLaws.{Reads, reads-none, reads-then, at, reads-space, reads-newline, reads-promise, not-second}
 use Rattle.refusal_text.specs.RefusalText.{refusalLine}
 use Rattle.list_bytes.specs.ListBytes.{maxWords, maxBytes, listOf}
 use Rattle.list_bytes.proofs.LoadLaws.{list-back}
@@ -38,24 +39,25 @@ short : (k n end : ℕ) → n < 10 ^ suc k → length (number n end) ≤ k + 2
 short k n end h = rw length-append (omega (arith, decimal-few k n h))
 
 -- the line of a pair, after `count` numbers
-four-reads : (line count a b c d : ℕ) → 0 < count → count + 4 ≤ maxNumbers → a ≤ maxValue → b ≤ maxValue → c ≤ maxValue → d ≤ maxValue
-    → Reads (at true line count count) (fourLine a b c d) (a ∷ b ∷ c ∷ d ∷ []) (at true (line + 1) (count + 4) (count + 4))
-four-reads line count a b c d some room ha hb hc hd =
+four-reads : (line count promised a b c d : ℕ) → 0 < count → count + 4 ≤ maxNumbers
+    → a ≤ maxValue → b ≤ maxValue → c ≤ maxValue → d ≤ maxValue
+    → Reads (at true line count count promised) (fourLine a b c d) (a ∷ b ∷ c ∷ d ∷ []) (at true (line + 1) (count + 4) (count + 4) promised)
+four-reads line count promised a b c d some room ha hb hc hd =
     let four : count + 1 + 1 + 1 + 1 ≡ count + 4 = omega arith in
     let fit : 0 ≡ lineFault true count (count + 1 + 1 + 1 + 1) = pair-line count (count + 1 + 1 + 1 + 1) true refl (λ e. omega arith)
     (λ e. omega arith) four in
     rw four at
-    (reads-then (reads-space true line count count a ha (omega arith))
-    (reads-then (reads-space true line count (count + 1) b hb (omega arith))
-    (reads-then (reads-space true line count (count + 1 + 1) c hc (omega arith))
-    (reads-newline true line count (count + 1 + 1 + 1) d hd (omega arith) fit))))
+    (reads-then (reads-space true line count count promised a ha (not-second line count count promised a some) (omega arith))
+    (reads-then (reads-space true line count (count + 1) promised b hb (not-second line count (count + 1) promised b some) (omega arith))
+    (reads-then (reads-space true line count (count + 1 + 1) promised c hc (not-second line count (count + 1 + 1) promised c some) (omega arith))
+    (reads-newline true line count (count + 1 + 1 + 1) promised d hd (not-second line count (count + 1 + 1 + 1) promised d some) (omega arith) fit))))
 
--- the end of a text between two lines
-end-is : (line count : ℕ) → 0 < count → at true (line + 1) count count ≡ finished (at true line count count)
+-- the end of a text between two lines, after as many numbers as are promised
+end-is : (line count : ℕ) → 0 < count → at true line count count count ≡ finished (at true line count count count)
 unfolding numberEnded
 end-is line count some =
-    let s = at true line count count in
-    line-next s refl (blank-line count count true refl refl) refl ∙ finish-some s refl refl refl (λ e. omega arith)
+    let s = at true line count count count in
+    finish-ends s refl refl refl (end-kept s (λ e. omega arith) (blank-line count count true refl refl) refl (λ e. omega arith) refl)
 
 module _ (ws : List ℕ) (l : ListIn ws) where
   fourAt : ℕ → List ℕ
@@ -72,38 +74,56 @@ module _ (ws : List ℕ) (l : ListIn ws) where
       let z : 4 * k + 0 ≡ 4 * k = omega arith in
       rw (rw z at (nth 0 (omega arith)), nth 1 (omega arith), nth 2 (omega arith), nth 3 (omega arith))
 
-  text-is : textOf (registers ws) (numbersOf ws) ≡ number (registers ws) newline ++ run lineAt (pairCount ws)
+  text-is : textOf (registers ws) (numbersOf ws)
+      ≡ number (registers ws) space ++ (number (pairCount ws) newline ++ run lineAt (pairCount ws))
   unfolding textOf
   text-is = rw (count-is ws, run-same (pairLine (numbersOf ws)) lineAt (pairCount ws) line-is)
 
-  lines-read : (k : ℕ) → k ≤ pairCount ws → Reads (at true 2 1 1) (run lineAt k) (run fourAt k) (at true (2 + k) (1 + 4 * k) (1 + 4 * k))
+  lines-read : (promised k : ℕ) → k ≤ pairCount ws
+      → Reads (at true 2 1 1 promised) (run lineAt k) (run fourAt k) (at true (2 + k) (4 * k + 1) (4 * k + 1) promised)
   unfolding run lineAt fourAt
-  lines-read zero h = reads-none (at true 2 1 1)
-  lines-read (suc k) h =
+  lines-read promised zero h = reads-none (at true 2 1 1 promised)
+  lines-read promised (suc k) h =
       let v = l .values k h in
       let few = l .head .few in
       let most = l .head .most in
-      let e : 1 + 4 * k + 4 ≡ 1 + 4 * suc k = omega arith in
+      let e : 4 * k + 1 + 4 ≡ 4 * suc k + 1 = omega arith in
       let e′ : 2 + k + 1 ≡ 2 + suc k = omega arith in
-      reads-then (lines-read k (omega arith))
+      reads-then (lines-read promised k (omega arith))
       (rw (e, e′) at
-      (four-reads (2 + k) (1 + 4 * k) (pairAt ws k .launch) (pairAt ws k .capture) (pairAt ws k .least) (pairAt ws k .greatest) (omega arith) (omega arith)
+      (four-reads (2 + k) (4 * k + 1) promised (pairAt ws k .launch) (pairAt ws k .capture) (pairAt ws k .least) (pairAt ws k .greatest)
+      (omega arith) (omega arith)
       (omega (arith, v .launch)) (omega (arith, v .capture)) (omega (arith, v .order, v .limit)) (omega (arith, v .limit))))
 
-  text-reads : Reads (start true) (textOf (registers ws) (numbersOf ws)) (registers ws ∷ numbersOf ws)
-      (at true (2 + pairCount ws) (1 + 4 * pairCount ws) (1 + 4 * pairCount ws))
-  unfolding lineFault fourAt
-  text-reads =
-      rw text-is
-      (reads-then (reads-newline true 1 0 0 (registers ws) (omega (arith, l .head .most)) (omega arith) refl) (lines-read (pairCount ws) (omega arith)))
+  -- how many numbers there are
+  total : ℕ
+  total = 4 * pairCount ws + 1
 
-  -- the text is not too long: a register or a count has at most 3 digits, a delay 7, so a line has at most 24 bytes
+  text-reads : Reads (start true) (textOf (registers ws) (numbersOf ws)) (registers ws ∷ numbersOf ws) (at true (2 + pairCount ws) total total total)
+  unfolding isSecond fourAt total
+  text-reads =
+      let m = pairCount ws in
+      rw text-is
+      (reads-then (reads-space true 1 0 0 0 (registers ws) (omega (arith, l .head .most)) refl (omega arith))
+      (reads-then (reads-promise 1 m (omega (arith, l .head .few))) (lines-read (4 * m + 1) m (omega arith))))
+
+  -- the text is not too long: a register or a count has at most 4 digits, a delay 7, so a line has at most 24 bytes
   text-short : length (textOf (registers ws) (numbersOf ws)) ≤ textBytes
   unfolding lineAt
   text-short =
-      let head = short 2 (registers ws) newline (omega (arith, l .head .most)) in
-      let lines = run-most lineAt 24 (pairCount ws) line-short in
-      rw (text-is, length-append) (omega (arith, l .head .few, head, lines))
+      let N = number (registers ws) space in
+      let M = number (pairCount ws) newline in
+      let lines = run lineAt (pairCount ws) in
+      rw text-is
+      (omega (
+        arith,
+        l .head .few,
+        short 2 (registers ws) space (omega (arith, l .head .most)),
+        short 3 (pairCount ws) newline (omega (arith, l .head .few)),
+        run-most lineAt 24 (pairCount ws) line-short,
+        length-append N (M ++ lines),
+        length-append M lines,
+      ))
     where
       line-short : (k : ℕ) → k < pairCount ws → length (lineAt k) ≤ 24
       line-short k h =
@@ -124,24 +144,29 @@ module _ (ws : List ℕ) (l : ListIn ws) where
   text : List ℕ
   text = textOf (registers ws) (numbersOf ws)
 
-  after-is : at true (2 + pairCount ws) (1 + 4 * pairCount ws) (1 + 4 * pairCount ws) ≡ after (start true) text
+  after-is : at true (2 + pairCount ws) total total total ≡ after (start true) text
   unfolding text
   after-is = sym (text-reads .state)
 
-  last-is : at true (2 + pairCount ws + 1) (1 + 4 * pairCount ws) (1 + 4 * pairCount ws) ≡ last true text
-  last-is = end-is (2 + pairCount ws) (1 + 4 * pairCount ws) (omega arith) ∙ ap finished after-is
+  last-is : at true (2 + pairCount ws) total total total ≡ last true text
+  unfolding total
+  last-is = end-is (2 + pairCount ws) total (omega arith) ∙ ap finished after-is
 
-  scan-is : scanned true text ≡ Numbers (1 + 4 * pairCount ws)
+  -- it has no mark
+  whole : markSize text ≡ 0
+  whole = no-mark true text (ap (λ (s : State). s .fault) (sym after-is))
+
+  scan-is : scanned true text ≡ Numbers total
   unfolding scanned text
-  scan-is = rw (le-ltb textBytes (length text) text-short, ← last-is)
+  scan-is = rw (le-ltb textBytes (length text) text-short, whole, ← last-is)
 
   kept-none : kept (after (start true) text) (last true text) ≡ []
   unfolding kept
-  kept-none = rw (← last-is, ← after-is, le-ltb (1 + 4 * pairCount ws) (1 + 4 * pairCount ws) (omega arith))
+  kept-none = rw (← last-is, ← after-is, le-ltb total total (omega arith))
 
   stored-is : storedOf true text ≡ registers ws ∷ numbersOf ws
   unfolding storedOf text
-  stored-is = rw (le-ltb textBytes (length text) text-short, kept-none, append-nil, text-reads .numbers)
+  stored-is = rw (le-ltb textBytes (length text) text-short, whole, kept-none, append-nil, text-reads .numbers)
 
   pub made-is : made (textOf (registers ws) (numbersOf ws)) ≡ listBytes (toBytes ws (length ws))
   unfolding madeOf told text

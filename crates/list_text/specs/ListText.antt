@@ -1,4 +1,4 @@
--- A delay list as plain text: the count of registers in the first line, then a line for each pair, launch capture least greatest.
+-- A delay list as plain text: the counts of registers and of pairs in the first line, then a line for each pair, launch capture least greatest.
 use Prim.Native.Nat.{ℕ, _+_, _*_}
 use mathlib.Core.Bool.{true}
 use mathlib.Core.List.{List, _++_}
@@ -27,7 +27,7 @@ pairWidth = 4 * numberWidth
 
 -- the text of the longest list
 abbrev pub listWidth : ℕ
-listWidth = pairWidth * maxPairs + numberWidth
+listWidth = pairWidth * maxPairs + 2 * numberWidth
 
 -- places enough for any text, be it of a list or of a refusal
 abbrev pub shownPlaces : ℕ
@@ -45,7 +45,7 @@ pairLine xs k = fourLine (getD xs (4 * k) 0) (getD xs (4 * k + 1) 0) (getD xs (4
 
 -- the text of n registers and the pairs that the numbers xs make
 unfoldable pub textOf : ℕ → List ℕ → List ℕ
-textOf n xs = number n newline ++ run (pairLine xs) (givenCount xs)
+textOf n xs = number n space ++ (number (givenCount xs) newline ++ run (pairLine xs) (givenCount xs))
 
 -- the count of registers is the first number that reading returns
 abbrev pub shownDone : List ℕ → List ℕ → List ℕ
@@ -73,7 +73,7 @@ madeDone returned stored = listBytes (toBytes stored (length stored))
 abbrev pub madeFrom : ℕ → List ℕ → Product
 madeFrom n xs = told madeRefused madeDone (writing n xs maxWords)
 
--- from the numbers of a text: the count of registers, then four for each pair
+-- from the numbers of a text: the count of registers, then four for each pair. (A count of pairs is not among them: Scan.`numberEnded`)
 unfoldable pub madeOf : Scanned → List ℕ → Product
 madeOf (Faulty fault line) xs = errorLine (faultLine fault line)
 madeOf (Numbers count) xs = madeFrom (getD xs 0 0) (drop 1 xs)

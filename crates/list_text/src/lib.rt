@@ -71,7 +71,8 @@ fn put_list(text: &mut [u8], n: u32, numbers: &[u32]) -> usize
     ensures { λ r. ⌜ Put listWidth (textOf n (now (numbers .entry))) (now (text .entry)) 0 (now (text .exit)) r ⌝ }
 {
     let m = numbers.len() / 4;
-    let at = put_number(text, 0, n as u64, b'\n');
+    let first = put_number(text, 0, n as u64, b' ');
+    let at = put_number(text, first, m as u64, b'\n');
     put_pairs(text, at, numbers, m)
 }
 

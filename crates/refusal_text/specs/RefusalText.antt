@@ -50,12 +50,13 @@ meaning = wordsFor meanings " a buffer is too short\n"
 -- what is wrong with a text
 abbrev pub troubles : List (ℕ × String)
 troubles =
-    (1, " only digits, spaces and newlines may stand here\n")
+    (1, " only digits, spaces, commas and comments may stand here\n")
     ∷ (2, " a number is above 4294967295\n")
-    ∷ (3, " the first line holds one number, the count of registers\n")
+    ∷ (3, " the first line holds the count of registers, or that and the count of pairs\n")
     ∷ (4, " a pair takes four numbers: launch capture least greatest\n")
     ∷ (5, " too many numbers: a text has at most 8193, enough for 2048 pairs\n")
     ∷ (6, " the text holds no number\n")
+    ∷ (8, " the first line says another number of pairs\n")
     ∷ []
 
 unfoldable pub trouble : ℕ → List ℕ

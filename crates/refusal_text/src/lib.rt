@@ -64,13 +64,13 @@ fn put_trouble(text: &mut [u8], at: usize, fault: u32) -> usize
         1 => put_bytes(
             text,
             at,
-            b" only digits, spaces and newlines may stand here\n",
+            b" only digits, spaces, commas and comments may stand here\n",
         ),
         2 => put_bytes(text, at, b" a number is above 4294967295\n"),
         3 => put_bytes(
             text,
             at,
-            b" the first line holds one number, the count of registers\n",
+            b" the first line holds the count of registers, or that and the count of pairs\n",
         ),
         4 => put_bytes(
             text,
@@ -83,6 +83,7 @@ fn put_trouble(text: &mut [u8], at: usize, fault: u32) -> usize
             b" too many numbers: a text has at most 8193, enough for 2048 pairs\n",
         ),
         6 => put_bytes(text, at, b" the text holds no number\n"),
+        8 => put_bytes(text, at, b" the first line says another number of pairs\n"),
         _ => put_bytes(text, at, b" the text is longer than 131072 bytes\n"),
     }
 }

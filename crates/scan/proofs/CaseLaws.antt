@@ -5,9 +5,10 @@ use mathlib.Core.List.{List}
 use mathlib.Core.Path.{_≡_, refl, sym, _∙_}
 use lib.ListN.{set}
 use borrow.Author.Tests.{not-true, not-false, lt-ltb, le-ltb, eq-eqb, ne-eqb}
-use Rattle.text_pieces.specs.Pieces.{zeroByte, nineByte, space, newline}
+use Rattle.text_pieces.specs.Pieces.{zeroByte, nineByte, newline}
 use Rattle.scan.specs.declared.State.{State}
-use Rattle.scan.specs.Scan.{maxNumbers, maxValue, failed, withDigit, numberEnded, lineFault, nextLine, lineEnded, step, someNumber, finished, keptIn}
+use Rattle.scan.specs.Scan.{maxNumbers, maxValue, isBlank, commentByte, failed, valued, withDigit, isSecond, outside, numberEnded, lineFault}
+use Rattle.scan.specs.Scan.{nextLine, lineEnded, commented, stepInLine, step, endFault, atEnd, finished, keptIn}
 
 -- ---- the end of a line of a list
 
@@ -45,8 +46,7 @@ module _ (s : State) where
   unfolding withDigit
   digit-large d h = rw (lt-ltb maxValue (10 * s .value + d) h)
 
-  pub digit-more : (d : ℕ) → 10 * s .value + d ≤ maxValue
-      → record { lined = s .lined; line = s .line; first = s .first; count = s .count; inside = true; value = 10 * s .value + d; fault = 0 } ≡ withDigit s d
+  pub digit-more : (d : ℕ) → 10 * s .value + d ≤ maxValue → valued s (10 * s .value + d) ≡ withDigit s d
   unfolding withDigit
   digit-more d h = rw (le-ltb maxValue (10 * s .value + d) h)
 
@@ -54,14 +54,19 @@ module _ (s : State) where
   unfolding numberEnded
   ended-outside e = rw (not-true (s .inside) e)
 
-  pub ended-full : not (s .inside) ≡ false → maxNumbers ≤ s .count → failed s 5 ≡ numberEnded s
-  unfolding numberEnded
-  ended-full e h = rw (not-false (s .inside) e, le-ltb (s .count) maxNumbers h)
+  module _ (e : not (s .inside) ≡ false) where
+    pub ended-second : isSecond s ≡ true → outside s (s .count) (4 * s .value + 1) ≡ numberEnded s
+    unfolding numberEnded isSecond
+    ended-second h = rw (not-false (s .inside) e, h)
 
-  pub ended-next : not (s .inside) ≡ false → s .count < maxNumbers
-      → record { lined = s .lined; line = s .line; first = s .first; count = s .count + 1; inside = false; value = 0; fault = 0 } ≡ numberEnded s
-  unfolding numberEnded
-  ended-next e h = rw (not-false (s .inside) e, lt-ltb (s .count) maxNumbers h)
+    module _ (other : isSecond s ≡ false) where
+      pub ended-full : maxNumbers ≤ s .count → failed s 5 ≡ numberEnded s
+      unfolding numberEnded isSecond
+      ended-full h = rw (not-false (s .inside) e, other, le-ltb (s .count) maxNumbers h)
+
+      pub ended-next : s .count < maxNumbers → outside s (s .count + 1) (s .promised) ≡ numberEnded s
+      unfolding numberEnded isSecond
+      ended-next h = rw (not-false (s .inside) e, other, lt-ltb (s .count) maxNumbers h)
 
   -- ---- a line
 
@@ -78,6 +83,31 @@ module _ (s : State) where
     unfolding lineEnded
     line-next h = rw (eq-eqb (s .fault) 0 ok, ← e, eq-eqb wrong 0 h)
 
+  -- ---- a byte in a line
+
+  module _ (byte : ℕ) where
+    pub in-blank : isBlank byte ≡ true → numberEnded s ≡ stepInLine s byte
+    unfolding stepInLine
+    in-blank h = rw h
+
+    module _ (a : isBlank byte ≡ false) where
+      pub in-comment : byte ≡ commentByte → commented (numberEnded s) ≡ stepInLine s byte
+      unfolding stepInLine
+      in-comment h = rw (a, eq-eqb byte commentByte h)
+
+      module _ (b : byte ≡ commentByte → ⊥) where
+        pub in-low : byte < zeroByte → failed s 1 ≡ stepInLine s byte
+        unfolding stepInLine
+        in-low h = rw (a, ne-eqb byte commentByte b, lt-ltb byte zeroByte h)
+
+        pub in-high : zeroByte ≤ byte → nineByte < byte → failed s 1 ≡ stepInLine s byte
+        unfolding stepInLine
+        in-high h l = rw (a, ne-eqb byte commentByte b, le-ltb byte zeroByte h, lt-ltb nineByte byte l)
+
+        pub in-digit : zeroByte ≤ byte → byte ≤ nineByte → withDigit s (byte - zeroByte) ≡ stepInLine s byte
+        unfolding stepInLine
+        in-digit h l = rw (a, ne-eqb byte commentByte b, le-ltb byte zeroByte h, le-ltb nineByte byte l)
+
   -- ---- a byte
 
   pub step-stays : (byte : ℕ) → (s .fault ≡ 0 → ⊥) → s ≡ step s byte
@@ -85,29 +115,43 @@ module _ (s : State) where
   step-stays byte h = rw (ne-eqb (s .fault) 0 h)
 
   module _ (byte : ℕ) (ok : s .fault ≡ 0) where
-    pub step-space : byte ≡ space → numberEnded s ≡ step s byte
+    pub step-newline : byte ≡ newline → lineEnded (numberEnded s) ≡ step s byte
     unfolding step
-    step-space h = rw (eq-eqb (s .fault) 0 ok, eq-eqb byte space h)
+    step-newline h = rw (eq-eqb (s .fault) 0 ok, eq-eqb byte newline h)
 
-    module _ (a : byte ≡ space → ⊥) where
-      pub step-newline : byte ≡ newline → lineEnded (numberEnded s) ≡ step s byte
+    module _ (a : byte ≡ newline → ⊥) where
+      pub step-comment : s .comment ≡ true → s ≡ step s byte
       unfolding step
-      step-newline h = rw (eq-eqb (s .fault) 0 ok, ne-eqb byte space a, eq-eqb byte newline h)
+      step-comment h = rw (eq-eqb (s .fault) 0 ok, ne-eqb byte newline a, h)
 
-      module _ (b : byte ≡ newline → ⊥) where
-        pub step-low : byte < zeroByte → failed s 1 ≡ step s byte
-        unfolding step
-        step-low h = rw (eq-eqb (s .fault) 0 ok, ne-eqb byte space a, ne-eqb byte newline b, lt-ltb byte zeroByte h)
-
-        pub step-high : zeroByte ≤ byte → nineByte < byte → failed s 1 ≡ step s byte
-        unfolding step
-        step-high h l = rw (eq-eqb (s .fault) 0 ok, ne-eqb byte space a, ne-eqb byte newline b, le-ltb byte zeroByte h, lt-ltb nineByte byte l)
-
-        pub step-digit : zeroByte ≤ byte → byte ≤ nineByte → withDigit s (byte - zeroByte) ≡ step s byte
-        unfolding step
-        step-digit h l = rw (eq-eqb (s .fault) 0 ok, ne-eqb byte space a, ne-eqb byte newline b, le-ltb byte zeroByte h, le-ltb nineByte byte l)
+      pub step-line : s .comment ≡ false → stepInLine s byte ≡ step s byte
+      unfolding step
+      step-line h = rw (eq-eqb (s .fault) 0 ok, ne-eqb byte newline a, h)
 
   -- ---- the end
+
+  pub end-none : s .count ≡ 0 → 6 ≡ endFault s
+  unfolding endFault
+  end-none h = rw (eq-eqb (s .count) 0 h)
+
+  module _ {wrong : ℕ} (some : s .count ≡ 0 → ⊥) (e : wrong ≡ lineFault (s .lined) (s .first) (s .count)) where
+    pub end-wrong : (wrong ≡ 0 → ⊥) → wrong ≡ endFault s
+    unfolding endFault
+    end-wrong h = rw (ne-eqb (s .count) 0 some, ← e, ne-eqb wrong 0 h)
+
+    module _ (ok : wrong ≡ 0) where
+      pub end-silent : s .promised ≡ 0 → 0 ≡ endFault s
+      unfolding endFault
+      end-silent h = rw (ne-eqb (s .count) 0 some, ← e, eq-eqb wrong 0 ok, eq-eqb (s .promised) 0 h)
+
+      module _ (told : s .promised ≡ 0 → ⊥) where
+        pub end-kept : s .count ≡ s .promised → 0 ≡ endFault s
+        unfolding endFault
+        end-kept h = rw (ne-eqb (s .count) 0 some, ← e, eq-eqb wrong 0 ok, ne-eqb (s .promised) 0 told, eq-eqb (s .count) (s .promised) h)
+
+        pub end-broken : (s .count ≡ s .promised → ⊥) → 8 ≡ endFault s
+        unfolding endFault
+        end-broken h = rw (ne-eqb (s .count) 0 some, ← e, eq-eqb wrong 0 ok, ne-eqb (s .promised) 0 told, ne-eqb (s .count) (s .promised) h)
 
   pub finish-stays : (s .fault ≡ 0 → ⊥) → s ≡ finished s
   unfolding finished
@@ -115,16 +159,12 @@ module _ (s : State) where
 
   module _ {last : State} (ok : s .fault ≡ 0) (e : last ≡ numberEnded s) where
     pub finish-faulty : (last .fault ≡ 0 → ⊥) → last ≡ finished s
-    unfolding finished someNumber lineEnded
-    finish-faulty h = rw (eq-eqb (s .fault) 0 ok, ← e, ne-eqb (last .fault) 0 h, ne-eqb (last .fault) 0 h)
+    unfolding finished atEnd
+    finish-faulty h = rw (eq-eqb (s .fault) 0 ok, ← e, ne-eqb (last .fault) 0 h)
 
-    pub finish-none : last .fault ≡ 0 → last .count ≡ 0 → failed last 6 ≡ finished s
-    unfolding finished someNumber lineEnded
-    finish-none h z = rw (eq-eqb (s .fault) 0 ok, ← e, eq-eqb (last .fault) 0 h, eq-eqb (last .count) 0 z)
-
-    pub finish-some : last .fault ≡ 0 → (last .count ≡ 0 → ⊥) → lineEnded last ≡ finished s
-    unfolding finished someNumber
-    finish-some h z = rw (eq-eqb (s .fault) 0 ok, ← e, eq-eqb (last .fault) 0 h, ne-eqb (last .count) 0 z)
+    pub finish-ends : {wrong : ℕ} → last .fault ≡ 0 → wrong ≡ endFault last → failed last wrong ≡ finished s
+    unfolding finished atEnd
+    finish-ends h w = rw (eq-eqb (s .fault) 0 ok, ← e, eq-eqb (last .fault) 0 h, w)
 
 -- ---- the places
 

@@ -8,13 +8,13 @@ use native.Mathlib.Nat.{add-zero, mul-zero, mul-suc}
 use native.Mathlib.Numerals.{add-one}
 use lib.Dec.{ltb, eqb}
 use lib.ListN.{length}
-use borrow.Author.Tests.{ltb-true, ltb-false, lt-ltb, le-ltb}
+use borrow.Author.Tests.{ltb-true, ltb-false, lt-ltb, le-ltb, ne-eqb}
 use Rattle.buffers.specs.Run.{run}
 use Rattle.text_pieces.specs.Pieces.{zeroByte, digit, decimal, number, space, newline}
 use Rattle.text_pieces.proofs.DecimalLaws.{decimal-one, decimal-more}
 use Rattle.scan.specs.declared.State.{State}
-use Rattle.scan.specs.Scan.{maxNumbers, maxValue, start, withDigit, numberEnded, lineFault, lineEnded, step, finished, someNumber, kept, after, ended}
-use Rattle.scan.proofs.CaseLaws.{digit-more, ended-next, line-next, step-space, step-newline, step-digit}
+use Rattle.scan.specs.Scan.{maxNumbers, maxValue, isBlank, withDigit, isSecond, numberEnded, lineFault, lineEnded, stepInLine, step, kept, after, ended}
+use Rattle.scan.proofs.CaseLaws.{digit-more, ended-second, ended-next, line-next, in-blank, in-digit, step-newline, step-line}
 use Rattle.scan.proofs.ScanLaws.{after-append, ended-append}
 
 -- the bytes lead from s to t, and end the numbers xs
@@ -39,12 +39,34 @@ unfolding after ended
 reads-one {s} {t} {byte} {xs} e k = record { state = e; numbers = rw (e, append-nil) k }
 
 -- between two numbers
-abbrev pub at : Bool → ℕ → ℕ → ℕ → State
-at lined line first count = record { lined = lined; line = line; first = first; count = count; inside = false; value = 0; fault = 0 }
+abbrev pub at : Bool → ℕ → ℕ → ℕ → ℕ → State
+at lined line first count promised =
+    record {
+      lined = lined;
+      line = line;
+      first = first;
+      count = count;
+      promised = promised;
+      inside = false;
+      value = 0;
+      comment = false;
+      fault = 0;
+    }
 
 -- in a number
-abbrev pub within : Bool → ℕ → ℕ → ℕ → ℕ → State
-within lined line first count v = record { lined = lined; line = line; first = first; count = count; inside = true; value = v; fault = 0 }
+abbrev pub within : Bool → ℕ → ℕ → ℕ → ℕ → ℕ → State
+within lined line first count promised v =
+    record {
+      lined = lined;
+      line = line;
+      first = first;
+      count = count;
+      promised = promised;
+      inside = true;
+      value = v;
+      comment = false;
+      fault = 0;
+    }
 
 kept-same : (s t : State) → s .count ≡ t .count → kept s t ≡ []
 unfolding kept
@@ -54,27 +76,57 @@ kept-next : (s t : State) → s .count < t .count → kept s t ≡ s .value ∷ 
 unfolding kept
 kept-next s t h = rw (lt-ltb (s .count) (t .count) h)
 
-module _ (lined : Bool) (line first count : ℕ) where
+-- a digit is not blank
+digit-blank : (d : ℕ) → isBlank (digit d) ≡ false
+unfolding isBlank
+digit-blank d = rw (
+  ne-eqb (digit d) space (λ z. omega arith),
+  ne-eqb (digit d) 44 (λ z. omega arith),
+  ne-eqb (digit d) 9 (λ z. omega arith),
+  ne-eqb (digit d) 13 (λ z. omega arith),
+)
+
+module _ (lined : Bool) (line first count promised : ℕ) where
   -- a digit, as the first one or as a later one
   one-digit : (inside : Bool) (v d w : ℕ) → d < 10 → 10 * v + d ≡ w → w ≤ maxValue
-      → Reads (record { lined = lined; line = line; first = first; count = count; inside = inside; value = v; fault = 0 }) (digit d ∷ []) []
-      (within lined line first count w)
+      → Reads (record {
+        lined = lined;
+        line = line;
+        first = first;
+        count = count;
+        promised = promised;
+        inside = inside;
+        value = v;
+        comment = false;
+        fault = 0;
+      }) (digit d ∷ []) [] (within lined line first count promised w)
   one-digit inside v d w h e l =
-      let s : State = record { lined = lined; line = line; first = first; count = count; inside = inside; value = v; fault = 0 } in
+      let s : State = record {
+        lined = lined;
+        line = line;
+        first = first;
+        count = count;
+        promised = promised;
+        inside = inside;
+        value = v;
+        comment = false;
+        fault = 0;
+      } in
       let small : zeroByte + d - zeroByte ≡ d = omega arith in
-      let read = step-digit s (digit d) refl (λ z. omega arith) (λ z. omega arith) (omega arith) (omega arith) in
-      let goes : withDigit s d ≡ step s (digit d) = rw small at read in
-      let there : within lined line first count w ≡ withDigit s d = rw e at (digit-more s d (omega arith)) in
-      reads-one (sym (there ∙ goes)) (kept-same s (within lined line first count w) refl)
+      let read = in-digit s (digit d) (digit-blank d) (λ z. omega arith) (omega arith) (omega arith) in
+      let goes : withDigit s d ≡ step s (digit d) = rw small at read ∙ step-line s (digit d) refl (λ z. omega arith) refl in
+      let there : within lined line first count promised w ≡ withDigit s d = rw e at (digit-more s d (omega arith)) in
+      reads-one (sym (there ∙ goes)) (kept-same s (within lined line first count promised w) refl)
 
   -- a number in decimal
-  digits-in : (k n : ℕ) → n < k → n ≤ maxValue → Reads (at lined line first count) (decimal n) [] (within lined line first count n)
+  digits-in : (k n : ℕ) → n < k → n ≤ maxValue → Reads (at lined line first count promised) (decimal n) [] (within lined line first count promised n)
   digits-in zero n h l = absurd (omega arith)
   digits-in (suc k) n h l = go (ltb n 10) refl (digits-in k (n / 10))
     where
       go : (b : Bool) → ltb n 10 ≡ b
-          → (n / 10 < k → n / 10 ≤ maxValue → Reads (at lined line first count) (decimal (n / 10)) [] (within lined line first count (n / 10)))
-          → Reads (at lined line first count) (decimal n) [] (within lined line first count n)
+          → (n / 10 < k → n / 10 ≤ maxValue
+          → Reads (at lined line first count promised) (decimal (n / 10)) [] (within lined line first count promised (n / 10)))
+          → Reads (at lined line first count promised) (decimal n) [] (within lined line first count promised n)
       go true e front =
           let one = ltb-true n 10 e in
           rw (decimal-one n one) (one-digit false 0 n n one (omega arith) l)
@@ -83,26 +135,47 @@ module _ (lined : Bool) (line first count : ℕ) where
           rw (decimal-more n more)
           (reads-then (front (omega arith) (omega arith)) (one-digit true (n / 10) (n % 10) n (omega arith) (omega arith) l))
 
-  pub digits : (n : ℕ) → n ≤ maxValue → Reads (at lined line first count) (decimal n) [] (within lined line first count n)
+  pub digits : (n : ℕ) → n ≤ maxValue → Reads (at lined line first count promised) (decimal n) [] (within lined line first count promised n)
   digits n l = digits-in (suc n) n (omega arith) l
 
-  module _ (n : ℕ) (l : n ≤ maxValue) (room : count < maxNumbers) where
-    ends : at lined line first (count + 1) ≡ numberEnded (within lined line first count n)
-    ends = ended-next (within lined line first count n) refl room
+  -- a number and the byte after it, which leads to a state t
+  then-byte : (n byte : ℕ) {t : State} {xs : List ℕ} → n ≤ maxValue → step (within lined line first count promised n) byte ≡ t
+      → kept (within lined line first count promised n) t ≡ xs → Reads (at lined line first count promised) (number n byte) xs t
+  then-byte n byte l e k = reads-then (digits n l) (reads-one e k)
 
-    -- a number and a space
-    pub reads-space : Reads (at lined line first count) (number n space) (n ∷ []) (at lined line first (count + 1))
-    reads-space =
-        let s = within lined line first count n in
-        reads-then (digits n l)
-        (reads-one (sym (ends ∙ step-space s space refl refl)) (kept-next s (at lined line first (count + 1)) (omega arith)))
+  module _ (n : ℕ) (l : n ≤ maxValue) where
+    module _ (other : isSecond (within lined line first count promised n) ≡ false) (room : count < maxNumbers) where
+      ends : at lined line first (count + 1) promised ≡ numberEnded (within lined line first count promised n)
+      ends = ended-next (within lined line first count promised n) refl other room
 
-    -- a number and the end of a line
-    pub reads-newline : 0 ≡ lineFault lined first (count + 1)
-        → Reads (at lined line first count) (number n newline) (n ∷ []) (at lined (line + 1) (count + 1) (count + 1))
-    reads-newline fit =
-        let s = within lined line first count n in
-        let t = at lined (line + 1) (count + 1) (count + 1) in
-        let ended : t ≡ lineEnded (numberEnded s) = line-next (at lined line first (count + 1)) refl fit refl ∙ ap lineEnded ends in
-        reads-then (digits n l)
-        (reads-one (sym (ended ∙ step-newline s newline refl (λ z. omega arith) refl)) (kept-next s t (omega arith)))
+      -- a number and a space
+      pub reads-space : Reads (at lined line first count promised) (number n space) (n ∷ []) (at lined line first (count + 1) promised)
+      unfolding isBlank
+      reads-space =
+          let s = within lined line first count promised n in
+          let t = at lined line first (count + 1) promised in
+          then-byte n space l (sym (ends ∙ in-blank s space refl ∙ step-line s space refl (λ z. omega arith) refl)) (kept-next s t (omega arith))
+
+      -- a number and the end of a line
+      pub reads-newline : 0 ≡ lineFault lined first (count + 1)
+          → Reads (at lined line first count promised) (number n newline) (n ∷ []) (at lined (line + 1) (count + 1) (count + 1) promised)
+      reads-newline fit =
+          let s = within lined line first count promised n in
+          let t = at lined (line + 1) (count + 1) (count + 1) promised in
+          let ended : t ≡ lineEnded (numberEnded s) =
+          line-next (at lined line first (count + 1) promised) refl fit refl ∙ ap lineEnded ends in
+          then-byte n newline l (sym (ended ∙ step-newline s newline refl refl)) (kept-next s t (omega arith))
+
+-- after the first line of a list no number is the count of pairs
+pub not-second : (line first count promised n : ℕ) → 0 < first → isSecond (within true line first count promised n) ≡ false
+unfolding isSecond
+not-second line first count promised n h = rw (ne-eqb first 0 (λ z. omega arith))
+
+-- the count of pairs, at the end of a list's first line
+pub reads-promise : (line n : ℕ) → n ≤ maxValue → Reads (at true line 0 1 0) (number n newline) [] (at true (line + 1) 1 1 (4 * n + 1))
+unfolding isSecond lineFault
+reads-promise line n l =
+    let s = within true line 0 1 0 n in
+    let t = at true (line + 1) 1 1 (4 * n + 1) in
+    let ended : t ≡ lineEnded (numberEnded s) = line-next (at true line 0 1 (4 * n + 1)) refl refl refl ∙ ap lineEnded (ended-second s refl refl) in
+    then-byte true line 0 1 0 n newline l (sym (ended ∙ step-newline s newline refl refl)) (kept-same s t refl)

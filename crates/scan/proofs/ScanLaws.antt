@@ -1,22 +1,24 @@
 -- Reading a text byte by byte: the state and the places after each, as the invariant `Scanning` of the loop, and what the whole
 -- text comes to.
-use Prim.Native.Nat.{ℕ, zero, suc, _+_, _≤_, _<_}
-use mathlib.Core.Bool.{Bool, true, false, cond}
+use Prim.Native.Nat.{ℕ, zero, suc, _+_, _-_, _≤_, _<_}
+use mathlib.Core.Bool.{Bool, true, false, cond, _&&_}
 use mathlib.Core.List.{List, [], _∷_, _++_, append-assoc, append-nil}
-use mathlib.Core.Path.{_≡_, refl, sym, _∙_}
+use mathlib.Core.Path.{_≡_, refl, sym, _∙_, ap}
 use native.Mathlib.Numerals.{add-one}
 use native.Mathlib.Omega.{arith}
 use lib.Dec.{ltb, eqb}
-use lib.ListN.{length, take, drop, getD, set, length-append}
-use lib.Seq.{take-suc, take-length}
+use lib.ListN.{length, take, drop, getD, set, length-append, length-drop, List·getD-eq-default}
+use lib.Seq.{take-suc, take-length, take-all}
 use borrow.Author.Tests.{ltb-true, ltb-false, lt-ltb, le-ltb, eq-eqb, ne-eqb, eqb-true, eqb-false}
 use Rattle.buffers.specs.Over.{over}
 use Rattle.buffers.proofs.FillLaws.{Filled, filled-none, filled-put, filled-size, set-put}
 use Rattle.scan.specs.declared.State.{State}
 use Rattle.scan.specs.declared.Scanned.{Scanned}
 use Rattle.scan.specs.declared.Scanned.the-variants.{Numbers, Faulty}
-use Rattle.scan.specs.Scan.{maxNumbers, textBytes, start, failed, numberEnded, lineFault, nextLine, lineEnded, step, someNumber, finished}
-use Rattle.scan.specs.Scan.{kept, keptIn, after, ended, last, scannedNumbers, resultOf, scanned, storedOf, Counted, ScanAs, StateIn, ScannedTo}
+use Rattle.scan.specs.Scan.{maxNumbers, textBytes, isBlank, start, failed, numberEnded, stepInLine, step, endFault, atEnd, finished}
+use Rattle.scan.specs.Scan.{kept, keptIn, after, ended, last, scannedNumbers, resultOf, markSize, withoutMark, scanned, storedOf}
+use Rattle.scan.specs.Scan.{Counted, TextAs, ScanAs, StateIn, ScannedTo}
+use Rattle.scan.proofs.CaseLaws.{end-none, step-stays}
 use Rattle.scan.proofs.StateLaws.{Moves, Fair, fair-in, step-moves, finish-moves}
 
 -- ---- runs of bytes strung together
@@ -127,36 +129,125 @@ module _ {lined : Bool} {bs was : List ℕ} where
 -- ---- the whole text
 
 -- a text that ends well holds a number
-some-there : (s : State) → someNumber s .fault ≡ 0 → 0 < someNumber s .count
-unfolding someNumber
-some-there s = go (eqb (s .fault) 0) refl (eqb (s .count) 0) refl
+end-some : (s : State) → atEnd s .fault ≡ 0 → 0 < atEnd s .count
+unfolding atEnd
+end-some s = go (eqb (s .fault) 0) refl (eqb (s .count) 0) refl
   where
     go : (b : Bool) → eqb (s .fault) 0 ≡ b → (b′ : Bool) → eqb (s .count) 0 ≡ b′
-        → cond b (cond b′ (failed s 6) s) s .fault ≡ 0 → 0 < cond b (cond b′ (failed s 6) s) s .count
-    go true e true e′ h = absurd (omega arith)
+        → cond b (failed s (endFault s)) s .fault ≡ 0 → 0 < cond b (failed s (endFault s)) s .count
+    go true e true e′ h = absurd (omega (arith, end-none s (eqb-true (s .count) 0 e′)))
     go true e false e′ h = omega (arith, eqb-false (s .count) 0 e′)
     go false e b′ e′ h = absurd (eqb-false (s .fault) 0 e h)
 
--- and the end of its last line keeps it
-line-there : (s : State) → (s .fault ≡ 0 → 0 < s .count) → lineEnded s .fault ≡ 0 → 0 < lineEnded s .count
-unfolding lineEnded
-line-there s = go (eqb (s .fault) 0) refl (eqb (lineFault (s .lined) (s .first) (s .count)) 0)
-  where
-    go : (b : Bool) → eqb (s .fault) 0 ≡ b → (b′ : Bool) → (s .fault ≡ 0 → 0 < s .count)
-        → cond b (cond b′ (nextLine s) (failed s (lineFault (s .lined) (s .first) (s .count)))) s .fault ≡ 0
-        → 0 < cond b (cond b′ (nextLine s) (failed s (lineFault (s .lined) (s .first) (s .count)))) s .count
-    go true e true some h = some (eqb-true (s .fault) 0 e)
-    go true e false some h = some (eqb-true (s .fault) 0 e)
-    go false e b′ some h = some h
-
-finish-some-number : (s : State) → finished s .fault ≡ 0 → 0 < finished s .count
+finish-some : (s : State) → finished s .fault ≡ 0 → 0 < finished s .count
 unfolding finished
-finish-some-number s = go (eqb (s .fault) 0) refl
+finish-some s = go (eqb (s .fault) 0) refl
   where
-    go : (b : Bool) → eqb (s .fault) 0 ≡ b → cond b (lineEnded (someNumber (numberEnded s))) s .fault ≡ 0
-        → 0 < cond b (lineEnded (someNumber (numberEnded s))) s .count
-    go true e h = line-there (someNumber (numberEnded s)) (some-there (numberEnded s)) h
+    go : (b : Bool) → eqb (s .fault) 0 ≡ b → cond b (atEnd (numberEnded s)) s .fault ≡ 0 → 0 < cond b (atEnd (numberEnded s)) s .count
+    go true e h = end-some (numberEnded s) h
     go false e h = absurd (eqb-false (s .fault) 0 e h)
+
+module _ {lined : Bool} {ts was : List ℕ} {mid now : List ℕ} {s t : State} (room : maxNumbers ≤ length was)
+    (w : ScannedTo lined ts was mid s) (e : t ≡ finished s) (e′ : now ≡ keptIn s t mid) where
+  moved : Moves 1 1 s t
+  moved = rw e (finish-moves s (fair-in (w .within)))
+
+  here : t ≡ last lined ts
+  here = rw (w .state) at e
+
+  all : scannedNumbers lined ts ≡ ended (start lined) ts ++ kept s t
+  all = rw (← here, ← w .state)
+
+  filled : Filled (ended (start lined) ts ++ kept s t) was now
+  filled =
+      let fits : length (ended (start lined) ts) ≤ length was = omega (arith, w .size, w .within .count) in
+      rw e′ (kept-filled moved {xs = ended (start lined) ts} {now = mid} room (w .size) (record { room = fits; is = w .places }))
+
+  size : t .count ≡ length (scannedNumbers lined ts)
+  size = rw (all, length-append) (omega (arith, kept-size moved, w .size))
+
+  stored : now ≡ over (scannedNumbers lined ts) was
+  stored = rw all (filled .is)
+
+  pub text-faulty : (t .fault ≡ 0 → ⊥) → TextAs lined ts was now (Faulty (t .fault) (t .line))
+  text-faulty wrong =
+      record {
+        answer = rw (← here, ne-eqb (t .fault) 0 wrong);
+        stored = stored;
+        counted = λ count told. (let z : _≡_ {A = ℕ} 0 1 = cc in absurd (omega arith));
+      }
+
+  pub text-numbers : t .fault ≡ 0 → TextAs lined ts was now (Numbers (t .count))
+  text-numbers ok =
+      record {
+        answer = rw (← here, eq-eqb (t .fault) 0 ok);
+        stored = stored;
+        counted =
+            λ count told. (let same : count ≡ t .count = cc in
+            rw same (record { size = size; some = rw e (finish-some s (rw e at ok)); most = moved .most }));
+      }
+
+-- ---- the mark
+
+-- whether three bytes are those of a mark, as the third of them decides or the first
+unfoldable markIf : Bool → Bool → Bool → ℕ
+markIf a b c = cond (a && (b && c)) 3 0
+
+no-third : (a b : Bool) → markIf a b false ≡ 0
+unfolding markIf
+no-third true true = refl
+no-third true false = refl
+no-third false b = refl
+
+pub mark-few : (bs : List ℕ) → length bs < 3 → markSize bs ≡ 0
+unfolding markSize markIf
+mark-few bs h =
+    let third : getD bs 2 0 ≡ 0 = List·getD-eq-default bs 0 (omega arith) in
+    rw third (no-third (eqb (getD bs 0 0) 239) (eqb (getD bs 1 0) 187))
+
+three : (b : Bool) → cond b 3 0 ≤ 3
+three true = omega arith
+three false = omega arith
+
+-- a mark stands in the text
+pub mark-fits : (bs : List ℕ) → markSize bs ≤ length bs
+unfolding markSize
+mark-fits bs = go (ltb (length bs) 3) refl
+  where
+    most : markSize bs ≤ 3
+    most = three (eqb (getD bs 0 0) 239 && (eqb (getD bs 1 0) 187 && eqb (getD bs 2 0) 191))
+
+    go : (b : Bool) → ltb (length bs) 3 ≡ b → markSize bs ≤ length bs
+    go true e = rw (mark-few bs (ltb-true (length bs) 3 e)) (omega arith)
+    go false e = omega (arith, ltb-false (length bs) 3 e, most)
+
+-- a fault stays
+pub after-stays : (s : State) (bs : List ℕ) → (s .fault ≡ 0 → ⊥) → after s bs ≡ s
+unfolding after
+after-stays s [] h = refl
+after-stays s (b ∷ bs) h = rw (← step-stays s b h) (after-stays s bs h)
+
+-- a text that reads well from its first byte on has no mark
+pub no-mark : (lined : Bool) (bs : List ℕ) → after (start lined) bs .fault ≡ 0 → markSize bs ≡ 0
+unfolding after markSize markIf step stepInLine isBlank
+no-mark lined [] h = refl
+no-mark lined (b ∷ bs) h = go (eqb b 239) refl
+  where
+    go : (c : Bool) → eqb b 239 ≡ c → markIf c (eqb (getD bs 0 0) 187) (eqb (getD bs 1 0) 191) ≡ 0
+    go false e = refl
+    go true e =
+        let first : step (start lined) b ≡ failed (start lined) 1 = rw (eqb-true b 239 e) in
+        let stays : after (step (start lined) b) bs ≡ failed (start lined) 1 = rw first (after-stays (failed (start lined) 1) bs (λ z. omega arith)) in
+        absurd (omega (arith, h, ap (λ (s : State). s .fault) stays))
+
+-- ---- the whole text
+
+-- the part after the mark, as it is lent
+lent-is : (bs : List ℕ) (from : ℕ) → take (length bs - from) (drop from bs) ≡ drop from bs
+lent-is bs from = take-all (length bs - from) (drop from bs) (rw length-drop (omega arith))
+
+pub lent-short : (bs : List ℕ) (from : ℕ) → length bs ≤ textBytes → length (take (length bs - from) (drop from bs)) ≤ textBytes
+lent-short bs from h = rw (lent-is bs from, length-drop) (omega arith)
 
 module _ {lined : Bool} {bs was : List ℕ} where
   pub scan-long : textBytes < length bs → ScanAs lined bs was was (Faulty 7 1)
@@ -169,49 +260,11 @@ module _ {lined : Bool} {bs was : List ℕ} where
         counted = λ count e. (let z : _≡_ {A = ℕ} 0 1 = cc in absurd (omega arith));
       }
 
-  module _ {mid now : List ℕ} {s t : State} (h : length bs ≤ textBytes) (room : maxNumbers ≤ length was)
-      (w : ScannedTo lined bs was mid s) (e : t ≡ finished s) (e′ : now ≡ keptIn s t mid) where
-    short : ltb textBytes (length bs) ≡ false
-    short = le-ltb textBytes (length bs) h
-
-    moved : Moves 1 1 s t
-    moved = rw e (finish-moves s (fair-in (w .within)))
-
-    here : t ≡ last lined bs
-    here = rw (w .state) at e
-
-    all : scannedNumbers lined bs ≡ ended (start lined) bs ++ kept s t
-    all = rw (← here, ← w .state)
-
-    filled : Filled (ended (start lined) bs ++ kept s t) was now
-    filled =
-        let fits : length (ended (start lined) bs) ≤ length was = omega (arith, w .size, w .within .count) in
-        rw e′ (kept-filled moved {xs = ended (start lined) bs} {now = mid} room (w .size) (record { room = fits; is = w .places }))
-
-    size : t .count ≡ length (storedOf lined bs)
-    unfolding storedOf
-    size = rw (short, all, length-append) (omega (arith, kept-size moved, w .size))
-
-    stored : now ≡ over (storedOf lined bs) was
-    unfolding storedOf
-    stored = rw (short, all) (filled .is)
-
-    pub scan-faulty : (t .fault ≡ 0 → ⊥) → ScanAs lined bs was now (Faulty (t .fault) (t .line))
-    unfolding scanned
-    scan-faulty wrong =
-        record {
-          answer = rw (short, ← here, ne-eqb (t .fault) 0 wrong);
-          stored = stored;
-          counted = λ count told. (let z : _≡_ {A = ℕ} 0 1 = cc in absurd (omega arith));
-        }
-
-    pub scan-numbers : t .fault ≡ 0 → ScanAs lined bs was now (Numbers (t .count))
-    unfolding scanned
-    scan-numbers ok =
-        record {
-          answer = rw (short, ← here, eq-eqb (t .fault) 0 ok);
-          stored = stored;
-          counted =
-              λ count told. (let same : count ≡ t .count = cc in
-              rw same (record { size = size; some = rw e (finish-some-number s (rw e at ok)); most = moved .most }));
-        }
+  pub scan-short : {now : List ℕ} {r : Scanned} {from : ℕ} → length bs ≤ textBytes → from ≡ markSize bs
+      → TextAs lined (take (length bs - from) (drop from bs)) was now r → ScanAs lined bs was now r
+  unfolding scanned storedOf
+  scan-short {now} {r} {from} h e told =
+      let short = le-ltb textBytes (length bs) h in
+      let text : take (length bs - from) (drop from bs) ≡ withoutMark bs = rw (lent-is bs from, e) in
+      let a : TextAs lined (withoutMark bs) was now r = rw text at told in
+      record { answer = rw short (a .answer); stored = rw short (a .stored); counted = λ count c. rw short (a .counted count c) }

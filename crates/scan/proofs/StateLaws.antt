@@ -5,9 +5,10 @@ use mathlib.Core.Path.{_≡_, refl}
 use native.Mathlib.Omega.{arith}
 use lib.Dec.{ltb, eqb}
 use borrow.Author.Tests.{ltb-true}
-use Rattle.text_pieces.specs.Pieces.{zeroByte, nineByte, space, newline}
+use Rattle.text_pieces.specs.Pieces.{zeroByte, nineByte, newline}
 use Rattle.scan.specs.declared.State.{State}
-use Rattle.scan.specs.Scan.{maxNumbers, maxValue, failed, withDigit, numberEnded, lineFault, lineEnded, step, someNumber, finished, StateIn}
+use Rattle.scan.specs.Scan.{maxNumbers, maxValue, isBlank, commentByte, failed, withDigit, isSecond, outside, numberEnded, lineFault, lineEnded}
+use Rattle.scan.specs.Scan.{commented, stepInLine, step, endFault, atEnd, finished, StateIn}
 
 -- at most l lines and k numbers further
 pub record Moves (l k : ℕ) (s t : State) : Type 0 where
@@ -47,8 +48,12 @@ module _ (s : State) (f : Fair s) where
   stay : Moves 0 0 s s
   stay = record { line = omega arith; low = omega arith; high = omega arith; first = f .first; most = f .most }
 
+  -- what a move does not look at may change
   failed-moves : (fault : ℕ) → Moves 0 0 s (failed s fault)
   failed-moves fault = record { line = omega arith; low = omega arith; high = omega arith; first = f .first; most = f .most }
+
+  comment-moves : Moves 0 0 s (commented s)
+  comment-moves = record { line = omega arith; low = omega arith; high = omega arith; first = f .first; most = f .most }
 
   digit-moves : (d : ℕ) → Moves 0 0 s (withDigit s d)
   unfolding withDigit
@@ -58,12 +63,13 @@ module _ (s : State) (f : Fair s) where
 
   pub ended-moves : Moves 0 1 s (numberEnded s)
   unfolding numberEnded
-  ended-moves = either (s .inside) (go (ltb (s .count) maxNumbers) refl) (more 0 1 (omega arith) (omega arith) stay)
+  ended-moves =
+      either (s .inside)
+      (either (isSecond s) (record { line = omega arith; low = omega arith; high = omega arith; first = f .first; most = f .most })
+      (go (ltb (s .count) maxNumbers) refl))
+      (more 0 1 (omega arith) (omega arith) stay)
     where
-      next : State
-      next = record { lined = s .lined; line = s .line; first = s .first; count = s .count + 1; inside = false; value = 0; fault = 0 }
-
-      go : (b : Bool) → ltb (s .count) maxNumbers ≡ b → Moves 0 1 s (cond b next (failed s 5))
+      go : (b : Bool) → ltb (s .count) maxNumbers ≡ b → Moves 0 1 s (cond b (outside s (s .count + 1) (s .promised)) (failed s 5))
       go true e =
           let below = ltb-true (s .count) maxNumbers e in
           record { line = omega arith; low = omega arith; high = omega arith; first = omega (arith, f .first); most = omega arith }
@@ -79,33 +85,39 @@ module _ (s : State) (f : Fair s) where
       (more 1 0 (omega arith) (omega arith) (failed-moves wrong)))
       (more 1 0 (omega arith) (omega arith) stay)
 
-far : {s t : State} → Moves 0 0 s t → Moves 1 1 s t
-far = more 1 1 (omega arith) (omega arith)
+far : {k : ℕ} {s t : State} → k ≤ 1 → Moves 0 k s t → Moves 1 1 s t
+far h = more 1 1 (omega arith) h
 
-some-moves : (s : State) → Fair s → Moves 0 0 s (someNumber s)
-unfolding someNumber
-some-moves s f = either (eqb (s .fault) 0) (either (eqb (s .count) 0) (failed-moves s f 6) (stay s f)) (stay s f)
+end-moves : (s : State) → Fair s → Moves 0 0 s (atEnd s)
+unfolding atEnd
+end-moves s f = either (eqb (s .fault) 0) (failed-moves s f (endFault s)) (stay s f)
 
 module _ (s : State) (f : Fair s) where
   both-moves : Moves 1 1 s (lineEnded (numberEnded s))
   both-moves = then (ended-moves s f) (line-moves (numberEnded s) (fair (ended-moves s f)))
 
+  in-moves : (byte : ℕ) → Moves 0 1 s (stepInLine s byte)
+  unfolding stepInLine
+  in-moves byte =
+      let wrong : Moves 0 1 s (failed s 1) = more 0 1 (omega arith) (omega arith) (failed-moves s f 1) in
+      either (isBlank byte) (ended-moves s f)
+      (either (eqb byte commentByte) (then (ended-moves s f) (comment-moves (numberEnded s) (fair (ended-moves s f))))
+      (either (ltb byte zeroByte) wrong
+      (either (ltb nineByte byte) wrong (more 0 1 (omega arith) (omega arith) (digit-moves s f (byte - zeroByte))))))
+
   pub step-moves : (byte : ℕ) → Moves 1 1 s (step s byte)
   unfolding step
   step-moves byte =
+      let same : Moves 1 1 s s = far (omega arith) (stay s f) in
       either (eqb (s .fault) 0)
-      (either (eqb byte space) (more 1 1 (omega arith) (omega arith) (ended-moves s f))
-      (either (eqb byte newline) both-moves
-      (either (ltb byte zeroByte) (far (failed-moves s f 1))
-      (either (ltb nineByte byte) (far (failed-moves s f 1)) (far (digit-moves s f (byte - zeroByte)))))))
-      (far (stay s f))
+      (either (eqb byte newline) both-moves (either (s .comment) same (far (omega arith) (in-moves byte))))
+      same
 
   pub finish-moves : Moves 1 1 s (finished s)
   unfolding finished
   finish-moves =
-      let some : Moves 0 1 s (someNumber (numberEnded s)) = then (ended-moves s f) (some-moves (numberEnded s) (fair (ended-moves s f))) in
-      either (eqb (s .fault) 0) (then some (line-moves (someNumber (numberEnded s)) (fair some)))
-      (more 1 1 (omega arith) (omega arith) (stay s f))
+      let ended = ended-moves s f in
+      either (eqb (s .fault) 0) (far (omega arith) (then ended (end-moves (numberEnded s) (fair ended)))) (far (omega arith) (stay s f))
 
 pub fair-in : {s : State} → StateIn s → Fair s
 fair-in i = record { first = i .first; most = i .count }

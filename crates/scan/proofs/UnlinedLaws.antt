@@ -1,4 +1,4 @@
--- Numbers that need not stand in the lines of a list: no line is at fault, so that faults 3 and 4 do not occur.
+-- Numbers that need not stand in the lines of a list: no line is at fault, and none promises pairs, so that faults 3, 4 and 8 do not occur.
 use Prim.Native.Nat.{ℕ, _-_, _*_, _+_}
 use mathlib.Core.Bool.{Bool, true, false, cond}
 use mathlib.Core.List.{List, [], _∷_}
@@ -6,27 +6,29 @@ use mathlib.Core.Path.{_≡_, refl}
 use lib.Dec.{ltb, eqb}
 use lib.ListN.{length}
 use borrow.Author.Tests.{eqb-false}
-use Rattle.text_pieces.specs.Pieces.{zeroByte, nineByte, space, newline}
+use Rattle.text_pieces.specs.Pieces.{zeroByte, nineByte, newline}
 use Rattle.scan.specs.declared.State.{State}
 use Rattle.scan.specs.declared.Scanned.{Scanned}
 use Rattle.scan.specs.declared.Scanned.the-variants.{Numbers, Faulty}
-use Rattle.scan.specs.Scan.{maxNumbers, maxValue, textBytes, start, failed, withDigit, numberEnded, lineFault, lineEnded, step}
-use Rattle.scan.specs.Scan.{someNumber, finished, after, last, scanned}
+use Rattle.scan.specs.Scan.{maxNumbers, maxValue, textBytes, isBlank, commentByte, start, failed, withDigit, isSecond, numberEnded, lineFault}
+use Rattle.scan.specs.Scan.{lineEnded, commented, stepInLine, step, endFault, atEnd, finished, after, last, withoutMark, scanned}
 
--- neither 3 nor 4
+-- not 3, 4 or 8
 pub record NoLine (fault : ℕ) : Type 0 where
   pub first : fault ≡ 3 → ⊥
   pub later : fault ≡ 4 → ⊥
+  pub pairs : fault ≡ 8 → ⊥
 
 record Unlined (s : State) : Type 0 where
   lined : s .lined ≡ false
+  promised : s .promised ≡ 0
   fault : NoLine (s .fault)
 
-no-line : (fault : ℕ) → eqb fault 3 ≡ false → eqb fault 4 ≡ false → NoLine fault
-no-line fault e e′ = record { first = eqb-false fault 3 e; later = eqb-false fault 4 e′ }
+no-line : (fault : ℕ) → eqb fault 3 ≡ false → eqb fault 4 ≡ false → eqb fault 8 ≡ false → NoLine fault
+no-line fault e e′ e″ = record { first = eqb-false fault 3 e; later = eqb-false fault 4 e′; pairs = eqb-false fault 8 e″ }
 
 none : NoLine 0
-none = no-line 0 refl refl
+none = no-line 0 refl refl refl
 
 either : {x y : State} (b : Bool) → Unlined x → Unlined y → Unlined (cond b x y)
 either true p q = p
@@ -34,26 +36,26 @@ either false p q = q
 
 module _ (s : State) (u : Unlined s) where
   failed-unlined : (fault : ℕ) → NoLine fault → Unlined (failed s fault)
-  failed-unlined fault n = record { lined = u .lined; fault = n }
+  failed-unlined fault n = record { lined = u .lined; promised = u .promised; fault = n }
 
   digit-unlined : (d : ℕ) → Unlined (withDigit s d)
   unfolding withDigit
   digit-unlined d =
-      either (ltb maxValue (10 * s .value + d)) (failed-unlined 2 (no-line 2 refl refl))
-      (record { lined = u .lined; fault = none })
+      either (ltb maxValue (10 * s .value + d)) (failed-unlined 2 (no-line 2 refl refl refl))
+      (record { lined = u .lined; promised = u .promised; fault = none })
+
+  not-second : isSecond s ≡ false
+  unfolding isSecond
+  not-second = rw (u .lined)
 
   ended-unlined : Unlined (numberEnded s)
   unfolding numberEnded
   ended-unlined =
-      either (s .inside)
-      (either (ltb (s .count) maxNumbers) (record { lined = u .lined; fault = none })
-      (failed-unlined 5 (no-line 5 refl refl)))
-      u
-
-  some-unlined : Unlined (someNumber s)
-  unfolding someNumber
-  some-unlined =
-      either (eqb (s .fault) 0) (either (eqb (s .count) 0) (failed-unlined 6 (no-line 6 refl refl)) u) u
+      rw not-second
+      (either (s .inside)
+      (either (ltb (s .count) maxNumbers) (record { lined = u .lined; promised = u .promised; fault = none })
+      (failed-unlined 5 (no-line 5 refl refl refl)))
+      u)
 
   no-fault : lineFault (s .lined) (s .first) (s .count) ≡ 0
   unfolding lineFault
@@ -61,24 +63,40 @@ module _ (s : State) (u : Unlined s) where
 
   line-unlined : Unlined (lineEnded s)
   unfolding lineEnded
-  line-unlined = either (eqb (s .fault) 0) (rw no-fault (record { lined = u .lined; fault = none })) u
+  line-unlined = either (eqb (s .fault) 0) (rw no-fault (record { lined = u .lined; promised = u .promised; fault = none })) u
+
+  end-no-line : NoLine (endFault s)
+  unfolding endFault
+  end-no-line = rw (no-fault, u .promised) (go (eqb (s .count) 0))
+    where
+      go : (b : Bool) → NoLine (cond b 6 0)
+      go true = no-line 6 refl refl refl
+      go false = none
+
+  end-unlined : Unlined (atEnd s)
+  unfolding atEnd
+  end-unlined = either (eqb (s .fault) 0) (failed-unlined (endFault s) end-no-line) u
 
 module _ (s : State) (u : Unlined s) where
+  in-unlined : (byte : ℕ) → Unlined (stepInLine s byte)
+  unfolding stepInLine
+  in-unlined byte =
+      let wrong : Unlined (failed s 1) = failed-unlined s u 1 (no-line 1 refl refl refl) in
+      let ended = ended-unlined s u in
+      either (isBlank byte) ended
+      (either (eqb byte commentByte) (record { lined = ended .lined; promised = ended .promised; fault = ended .fault })
+      (either (ltb byte zeroByte) wrong (either (ltb nineByte byte) wrong (digit-unlined s u (byte - zeroByte)))))
+
   step-unlined : (byte : ℕ) → Unlined (step s byte)
   unfolding step
   step-unlined byte =
-      let wrong : Unlined (failed s 1) = failed-unlined s u 1 (no-line 1 refl refl) in
       either (eqb (s .fault) 0)
-      (either (eqb byte space) (ended-unlined s u)
-      (either (eqb byte newline) (line-unlined (numberEnded s) (ended-unlined s u))
-      (either (ltb byte zeroByte) wrong (either (ltb nineByte byte) wrong (digit-unlined s u (byte - zeroByte))))))
+      (either (eqb byte newline) (line-unlined (numberEnded s) (ended-unlined s u)) (either (s .comment) u (in-unlined byte)))
       u
 
   finish-unlined : Unlined (finished s)
   unfolding finished
-  finish-unlined =
-      let some = some-unlined (numberEnded s) (ended-unlined s u) in
-      either (eqb (s .fault) 0) (line-unlined (someNumber (numberEnded s)) some) u
+  finish-unlined = either (eqb (s .fault) 0) (end-unlined (numberEnded s) (ended-unlined s u)) u
 
 after-unlined : (s : State) → Unlined s → (bs : List ℕ) → Unlined (after s bs)
 unfolding after
@@ -86,7 +104,7 @@ after-unlined s u [] = u
 after-unlined s u (b ∷ bs) = after-unlined (step s b) (step-unlined s u b) bs
 
 last-unlined : (bs : List ℕ) → Unlined (last false bs)
-last-unlined bs = finish-unlined (after (start false) bs) (after-unlined (start false) (record { lined = refl; fault = none }) bs)
+last-unlined bs = finish-unlined (after (start false) bs) (after-unlined (start false) (record { lined = refl; promised = refl; fault = none }) bs)
 
 -- the fault of a text that is faulty
 faultOf : Scanned → ℕ
@@ -95,13 +113,15 @@ faultOf (Faulty fault line) = fault
 
 scanned-unlined : (bs : List ℕ) → NoLine (faultOf (scanned false bs))
 unfolding scanned faultOf
-scanned-unlined bs = go (ltb textBytes (length bs)) (eqb (last false bs .fault) 0)
+scanned-unlined bs = go (ltb textBytes (length bs)) (eqb (t .fault) 0)
   where
-    go : (b b′ : Bool)
-        → NoLine (faultOf (cond b (Faulty 7 1) (cond b′ (Numbers (last false bs .count)) (Faulty (last false bs .fault) (last false bs .line)))))
-    go true b′ = no-line 7 refl refl
+    t : State
+    t = last false (withoutMark bs)
+
+    go : (b b′ : Bool) → NoLine (faultOf (cond b (Faulty 7 1) (cond b′ (Numbers (t .count)) (Faulty (t .fault) (t .line)))))
+    go true b′ = no-line 7 refl refl refl
     go false true = none
-    go false false = last-unlined bs .fault
+    go false false = last-unlined (withoutMark bs) .fault
 
 pub no-line-fault : (bs : List ℕ) {fault line : ℕ} → scanned false bs ≡ Faulty fault line → NoLine fault
 unfolding faultOf

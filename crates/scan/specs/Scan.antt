@@ -1,11 +1,13 @@
--- Decimal numbers in a text, read byte by byte. A text holds digits, spaces and newlines; its last newline may be missing.
--- In the lines of a delay list the first line with a number has one, each later one has four; lines without a number are skipped.
+-- Decimal numbers in a text, read byte by byte. Spaces, commas, tabs and carriage returns stand between them; from `#` to the end of its
+-- line is a comment; a byte order mark at the start is skipped; the last newline may be missing.
+-- In the lines of a delay list the first line with a number has one, the count of registers, or two, that and the count of pairs; each
+-- later one has four, those of a pair. Lines without a number are skipped.
 use Prim.Native.Nat.{ℕ, _+_, _-_, _*_, _^_, _≤_, _<_}
-use mathlib.Core.Bool.{Bool, false, true, cond}
+use mathlib.Core.Bool.{Bool, false, true, cond, _&&_, _||_}
 use mathlib.Core.List.{List, [], _∷_, _++_}
 use mathlib.Core.Path.{_≡_}
 use lib.Dec.{ltb, eqb}
-use lib.ListN.{length, set}
+use lib.ListN.{length, set, getD, drop}
 use Rattle.timing.specs.Limits.{maxPairs}
 use Rattle.buffers.specs.Over.{over}
 use Rattle.text_pieces.specs.Pieces.{zeroByte, nineByte, space, newline}
@@ -27,31 +29,80 @@ maxValue = 4_294_967_295
 
 -- ---- one byte
 
+-- what stands between numbers beside newlines: a space, a comma, a tab, a carriage return
+unfoldable pub isBlank : ℕ → Bool
+isBlank byte = eqb byte space || (eqb byte 44 || (eqb byte 9 || eqb byte 13))
+
+-- `#`
+abbrev pub commentByte : ℕ
+commentByte = 35
+
 abbrev pub start : Bool → State
-start lined = record { lined = lined; line = 1; first = 0; count = 0; inside = false; value = 0; fault = 0 }
+start lined = record { lined = lined; line = 1; first = 0; count = 0; promised = 0; inside = false; value = 0; comment = false; fault = 0 }
 
 -- something is wrong; nothing that follows changes that
 abbrev pub failed : State → ℕ → State
 failed s fault =
-    record { lined = s .lined; line = s .line; first = s .first; count = s .count; inside = s .inside; value = s .value; fault = fault }
+    record {
+      lined = s .lined;
+      line = s .line;
+      first = s .first;
+      count = s .count;
+      promised = s .promised;
+      inside = s .inside;
+      value = s .value;
+      comment = s .comment;
+      fault = fault;
+    }
+
+-- in a number, with its value so far
+abbrev pub valued : State → ℕ → State
+valued s value =
+    record {
+      lined = s .lined;
+      line = s .line;
+      first = s .first;
+      count = s .count;
+      promised = s .promised;
+      inside = true;
+      value = value;
+      comment = s .comment;
+      fault = 0;
+    }
 
 -- a digit more. 2: a number of more than 32 bits
 unfoldable pub withDigit : State → ℕ → State
-withDigit s d =
-    cond (ltb maxValue (10 * s .value + d)) (failed s 2)
-    (record { lined = s .lined; line = s .line; first = s .first; count = s .count; inside = true; value = 10 * s .value + d; fault = 0 })
+withDigit s d = cond (ltb maxValue (10 * s .value + d)) (failed s 2) (valued s (10 * s .value + d))
 
--- the end of a number, if one has begun. 5: too many numbers
+-- whether a number that ends is the second one of a list's first line: the count of pairs
+unfoldable pub isSecond : State → Bool
+isSecond s = s .lined && (eqb (s .first) 0 && (eqb (s .count) 1 && eqb (s .promised) 0))
+
+-- no number has begun; `count` have ended, and `promised` are promised
+abbrev pub outside : State → ℕ → ℕ → State
+outside s count promised =
+    record {
+      lined = s .lined;
+      line = s .line;
+      first = s .first;
+      count = count;
+      promised = promised;
+      inside = false;
+      value = 0;
+      comment = s .comment;
+      fault = 0;
+    }
+
+-- the end of a number, if one has begun. The count of pairs is not one of the numbers: it promises how many there are. 5: too many numbers
 unfoldable pub numberEnded : State → State
 numberEnded s =
     cond (s .inside)
-    (cond (ltb (s .count) maxNumbers)
-    (record { lined = s .lined; line = s .line; first = s .first; count = s .count + 1; inside = false; value = 0; fault = 0 })
-    (failed s 5))
+    (cond (isSecond s) (outside s (s .count) (4 * s .value + 1))
+    (cond (ltb (s .count) maxNumbers) (outside s (s .count + 1) (s .promised)) (failed s 5)))
     s
 
 -- what is wrong with the end of a line, after `first` numbers in the lines before and `count` in all.
--- 3: not one number in the first line of a list. 4: not four in a later one
+-- 3: not one number in the first line of a list, or two. 4: not four in a later one
 unfoldable pub lineFault : Bool → ℕ → ℕ → ℕ
 lineFault lined first count =
     cond lined (cond (eqb count first) 0 (cond (eqb first 0) (cond (eqb count 1) 0 3) (cond (eqb count (first + 4)) 0 4))) 0
@@ -59,7 +110,17 @@ lineFault lined first count =
 -- the next line
 abbrev pub nextLine : State → State
 nextLine s =
-    record { lined = s .lined; line = s .line + 1; first = s .count; count = s .count; inside = s .inside; value = s .value; fault = 0 }
+    record {
+      lined = s .lined;
+      line = s .line + 1;
+      first = s .count;
+      count = s .count;
+      promised = s .promised;
+      inside = s .inside;
+      value = s .value;
+      comment = false;
+      fault = 0;
+    }
 
 -- the end of a line
 unfoldable pub lineEnded : State → State
@@ -67,22 +128,48 @@ lineEnded s =
     let wrong : ℕ = lineFault (s .lined) (s .first) (s .count) in
     cond (eqb (s .fault) 0) (cond (eqb wrong 0) (nextLine s) (failed s wrong)) s
 
--- a byte more. 1: neither a digit nor a space nor a newline
+-- a comment begins
+abbrev pub commented : State → State
+commented s =
+    record {
+      lined = s .lined;
+      line = s .line;
+      first = s .first;
+      count = s .count;
+      promised = s .promised;
+      inside = s .inside;
+      value = s .value;
+      comment = true;
+      fault = s .fault;
+    }
+
+-- a byte in a line, outside comments. 1: neither a digit nor a blank nor the start of a comment
+unfoldable pub stepInLine : State → ℕ → State
+stepInLine s byte =
+    cond (isBlank byte) (numberEnded s)
+    (cond (eqb byte commentByte) (commented (numberEnded s))
+    (cond (ltb byte zeroByte) (failed s 1) (cond (ltb nineByte byte) (failed s 1) (withDigit s (byte - zeroByte)))))
+
+-- a byte more
 unfoldable pub step : State → ℕ → State
 step s byte =
     cond (eqb (s .fault) 0)
-    (cond (eqb byte space) (numberEnded s)
-    (cond (eqb byte newline) (lineEnded (numberEnded s))
-    (cond (ltb byte zeroByte) (failed s 1) (cond (ltb nineByte byte) (failed s 1) (withDigit s (byte - zeroByte))))))
+    (cond (eqb byte newline) (lineEnded (numberEnded s)) (cond (s .comment) s (stepInLine s byte)))
     s
 
--- a text without a number. 6
-unfoldable pub someNumber : State → State
-someNumber s = cond (eqb (s .fault) 0) (cond (eqb (s .count) 0) (failed s 6) s) s
+-- what is wrong with the end of the text, which ends its last line. 6: no number at all. 8: not as many pairs as the first line says
+unfoldable pub endFault : State → ℕ
+endFault s =
+    let wrong : ℕ = lineFault (s .lined) (s .first) (s .count) in
+    cond (eqb (s .count) 0) 6
+    (cond (eqb wrong 0) (cond (eqb (s .promised) 0) 0 (cond (eqb (s .count) (s .promised)) 0 8)) wrong)
 
--- the end of the text, which ends its last line
+unfoldable pub atEnd : State → State
+atEnd s = cond (eqb (s .fault) 0) (failed s (endFault s)) s
+
+-- the end of the text
 unfoldable pub finished : State → State
-finished s = cond (eqb (s .fault) 0) (lineEnded (someNumber (numberEnded s))) s
+finished s = cond (eqb (s .fault) 0) (atEnd (numberEnded s)) s
 
 -- the number that ended on the way from one state to the next, if any
 unfoldable pub kept : State → State → List ℕ
@@ -106,23 +193,31 @@ ended s (b ∷ bs) = kept s (step s b) ++ ended (step s b) bs
 
 -- after all bytes of a text
 abbrev pub last : Bool → List ℕ → State
-last lined bs = finished (after (start lined) bs)
+last lined ts = finished (after (start lined) ts)
 
 -- its numbers
 abbrev pub scannedNumbers : Bool → List ℕ → List ℕ
-scannedNumbers lined bs = ended (start lined) bs ++ kept (after (start lined) bs) (last lined bs)
+scannedNumbers lined ts = ended (start lined) ts ++ kept (after (start lined) ts) (last lined ts)
 
 -- the count of the numbers, or what is wrong and the line
 abbrev pub resultOf : State → Scanned
 resultOf s = cond (eqb (s .fault) 0) (Numbers (s .count)) (Faulty (s .fault) (s .line))
 
--- 7: a text that is too long
+-- the bytes of a byte order mark at the start
+unfoldable pub markSize : List ℕ → ℕ
+markSize bs = cond (eqb (getD bs 0 0) 239 && (eqb (getD bs 1 0) 187 && eqb (getD bs 2 0) 191)) 3 0
+
+-- the text after it
+abbrev pub withoutMark : List ℕ → List ℕ
+withoutMark bs = drop (markSize bs) bs
+
+-- 7: a text that is too long, the mark counted
 unfoldable pub scanned : Bool → List ℕ → Scanned
-scanned lined bs = cond (ltb textBytes (length bs)) (Faulty 7 1) (resultOf (last lined bs))
+scanned lined bs = cond (ltb textBytes (length bs)) (Faulty 7 1) (resultOf (last lined (withoutMark bs)))
 
 -- the numbers that are stored: none of a text that is too long
 unfoldable pub storedOf : Bool → List ℕ → List ℕ
-storedOf lined bs = cond (ltb textBytes (length bs)) [] (scannedNumbers lined bs)
+storedOf lined bs = cond (ltb textBytes (length bs)) [] (scannedNumbers lined (withoutMark bs))
 
 -- as many numbers are stored as are said, at least one
 pub record Counted (xs : List ℕ) (count : ℕ) : Type 0 where
@@ -130,7 +225,13 @@ pub record Counted (xs : List ℕ) (count : ℕ) : Type 0 where
   pub some : 0 < count
   pub most : count ≤ maxNumbers
 
--- a text was read, into places that held `was` and hold `now`
+-- a text ts after its mark was read, into places that held `was` and hold `now`
+pub record TextAs (lined : Bool) (ts was now : List ℕ) (r : Scanned) : Type 0 where
+  pub answer : r ≡ resultOf (last lined ts)
+  pub stored : now ≡ over (scannedNumbers lined ts) was
+  pub counted : (count : ℕ) → r ≡ Numbers count → Counted (scannedNumbers lined ts) count
+
+-- a whole text bs was
 pub record ScanAs (lined : Bool) (bs was now : List ℕ) (r : Scanned) : Type 0 where
   pub answer : r ≡ scanned lined bs
   pub stored : now ≡ over (storedOf lined bs) was

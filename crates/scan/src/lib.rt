@@ -1,10 +1,10 @@
-// Decimal numbers in a text, read byte by byte: separated by spaces and newlines, or in the lines of a delay list.
+// Decimal numbers in a text, read byte by byte: with blanks, newlines and comments between them, or in the lines of a delay list.
 // The contracts cite `specs/Scan.antt`.
 ghost use mathlib.Core.Path.{_≡_};
 ghost use Prim.Native.Nat.{_+_, _≤_, _<_};
 ghost use lib.ListN.{length};
-ghost use Rattle.scan.specs.Scan.{textBytes, maxNumbers, start, failed, withDigit, numberEnded, lineFault, lineEnded, step, finished};
-ghost use Rattle.scan.specs.Scan.{keptIn, StateIn, ScannedTo, ScanAs};
+ghost use Rattle.scan.specs.Scan.{textBytes, maxNumbers, isBlank, start, failed, withDigit, isSecond, numberEnded, lineFault, lineEnded};
+ghost use Rattle.scan.specs.Scan.{stepInLine, step, endFault, finished, keptIn, markSize, StateIn, ScannedTo, TextAs, ScanAs};
 use timing::MAX_PAIRS;
 
 // The most numbers that a text may hold: the count of registers, and four for each pair.
@@ -26,9 +26,13 @@ pub struct State {
     pub first: usize,
     // the numbers that have ended
     pub count: usize,
+    // 0, or how many there are by the count of pairs in the first line
+    pub promised: usize,
     // whether a number has begun, and its value so far
     pub inside: bool,
     pub value: u32,
+    // whether the rest of the line is a comment
+    pub comment: bool,
     // 0, or what is wrong
     pub fault: u32,
 }
@@ -47,10 +51,28 @@ fn begin(lined: bool) -> State
         line: 1,
         first: 0,
         count: 0,
+        promised: 0,
         inside: false,
         value: 0,
+        comment: false,
         fault: 0,
     }
+}
+
+// A space, a comma, a tab or a carriage return.
+fn blank(byte: u8) -> bool
+    ensures { λ r. ⌜ r ≡ isBlank byte ⌝ }
+{
+    if byte == b' ' {
+        return true;
+    }
+    if byte == b',' {
+        return true;
+    }
+    if byte == b'\t' {
+        return true;
+    }
+    byte == b'\r'
 }
 
 impl State {
@@ -78,6 +100,22 @@ impl State {
         next
     }
 
+    // Whether a number that ends is the count of pairs in the first line.
+    fn is_second(self) -> bool
+        ensures { λ r. ⌜ r ≡ isSecond self ⌝ }
+    {
+        if !self.lined {
+            return false;
+        }
+        if self.first != 0 {
+            return false;
+        }
+        if self.count != 1 {
+            return false;
+        }
+        self.promised == 0
+    }
+
     // The end of a number, if one has begun. 5: too many numbers.
     fn close(self) -> State
         ensures { λ r. ⌜ r ≡ numberEnded self ⌝ }
@@ -85,14 +123,18 @@ impl State {
         if !self.inside {
             return self;
         }
-        if self.count >= MAX_NUMBERS {
-            return self.fail(5);
-        }
         let mut next = self;
-        next.count = self.count + 1;
         next.inside = false;
         next.value = 0;
         next.fault = 0;
+        if self.is_second() {
+            next.promised = 4 * (self.value as usize) + 1;
+            return next;
+        }
+        if self.count >= MAX_NUMBERS {
+            return self.fail(5);
+        }
+        next.count = self.count + 1;
         next
     }
 
@@ -111,23 +153,23 @@ impl State {
         let mut next = self;
         next.line = self.line + 1;
         next.first = self.count;
+        next.comment = false;
         next.fault = 0;
         next
     }
 
-    // A byte more. 1: neither a digit nor a space nor a newline.
-    fn step(self, byte: u8) -> State
+    // A byte in a line, outside comments. 1: neither a digit nor a blank nor the start of a comment.
+    fn step_in_line(self, byte: u8) -> State
         requires { ⌜ StateIn self ⌝ }
-        ensures { λ r. ⌜ r ≡ step self byte ⌝ }
+        ensures { λ r. ⌜ r ≡ stepInLine self byte ⌝ }
     {
-        if self.fault != 0 {
-            return self;
-        }
-        if byte == b' ' {
+        if blank(byte) {
             return self.close();
         }
-        if byte == b'\n' {
-            return self.close().end_line();
+        if byte == b'#' {
+            let mut next = self.close();
+            next.comment = true;
+            return next;
         }
         if byte < b'0' {
             return self.fail(1);
@@ -138,7 +180,45 @@ impl State {
         self.digit((byte - b'0') as u32)
     }
 
-    // The end of the text, which ends its last line. 6: no number at all.
+    // A byte more.
+    fn step(self, byte: u8) -> State
+        requires { ⌜ StateIn self ⌝ }
+        ensures { λ r. ⌜ r ≡ step self byte ⌝ }
+    {
+        if self.fault != 0 {
+            return self;
+        }
+        if byte == b'\n' {
+            return self.close().end_line();
+        }
+        if self.comment {
+            return self;
+        }
+        self.step_in_line(byte)
+    }
+
+    // What is wrong with the end of the text, which ends its last line. 6: no number at all. 8: not as many pairs as the first line says.
+    fn end_fault(self) -> u32
+        requires { ⌜ StateIn self ⌝ }
+        ensures { λ r. ⌜ r ≡ endFault self ⌝ }
+    {
+        if self.count == 0 {
+            return 6;
+        }
+        let wrong = line_fault(self.lined, self.first, self.count);
+        if wrong != 0 {
+            return wrong;
+        }
+        if self.promised == 0 {
+            return 0;
+        }
+        if self.count == self.promised {
+            return 0;
+        }
+        8
+    }
+
+    // The end of the text.
     fn finish(self) -> State
         requires { ⌜ StateIn self ⌝ }
         ensures { λ r. ⌜ r ≡ finished self ⌝ }
@@ -150,15 +230,12 @@ impl State {
         if last.fault != 0 {
             return last;
         }
-        if last.count == 0 {
-            return last.fail(6);
-        }
-        last.end_line()
+        last.fail(last.end_fault())
     }
 }
 
 // What is wrong with the end of a line, after `first` numbers in the lines before and `count` in all.
-// 3: not one number in the first line of a list. 4: not four in a later one.
+// 3: not one number in the first line of a list, or two. 4: not four in a later one.
 fn line_fault(lined: bool, first: usize, count: usize) -> u32
     requires { ⌜ first ≤ maxNumbers ⌝ }
     ensures { λ r. ⌜ r ≡ lineFault lined first count ⌝ }
@@ -226,6 +303,38 @@ fn read_bytes(bytes: &[u8], lined: bool, numbers: &mut [u32]) -> State
     state
 }
 
+// The numbers of a text that is not too long and has no mark, or none any more.
+fn scan_text(text: &[u8], lined: bool, numbers: &mut [u32]) -> Scanned
+    requires { ⌜ (length (now text) ≤ textBytes) × (maxNumbers ≤ length (now numbers)) ⌝ }
+    ensures { λ r. ⌜ TextAs lined (now (text .entry)) (now (numbers .entry)) (now (numbers .exit)) r ⌝ }
+{
+    let walked = read_bytes(text, lined, numbers);
+    let last = turn_end(walked, numbers);
+    if last.fault != 0 {
+        return Scanned::Faulty(last.fault, last.line);
+    }
+    Scanned::Numbers(last.count)
+}
+
+// The bytes of a byte order mark at the start: 3, or 0 if there is none.
+fn mark_size(bytes: &[u8]) -> usize
+    ensures { λ r. ⌜ r ≡ markSize (now (bytes .entry)) ⌝ }
+{
+    if bytes.len() < 3 {
+        return 0;
+    }
+    if bytes[0] != 239 {
+        return 0;
+    }
+    if bytes[1] != 187 {
+        return 0;
+    }
+    if bytes[2] != 191 {
+        return 0;
+    }
+    3
+}
+
 // The numbers of a text, in the first places of `numbers`; later places keep their contents. Their count is returned.
 // Of a faulty text the numbers before the fault are stored, and what is wrong and the line are returned; 7: a text that is too long.
 pub fn scan(bytes: &[u8], lined: bool, numbers: &mut [u32; MAX_NUMBERS]) -> Scanned
@@ -234,10 +343,6 @@ pub fn scan(bytes: &[u8], lined: bool, numbers: &mut [u32; MAX_NUMBERS]) -> Scan
     if bytes.len() > TEXT_BYTES {
         return Scanned::Faulty(7, 1);
     }
-    let walked = read_bytes(bytes, lined, numbers);
-    let last = turn_end(walked, numbers);
-    if last.fault != 0 {
-        return Scanned::Faulty(last.fault, last.line);
-    }
-    Scanned::Numbers(last.count)
+    let from = mark_size(bytes);
+    scan_text(&bytes[from..], lined, numbers)
 }

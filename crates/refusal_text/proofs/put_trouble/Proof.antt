@@ -7,13 +7,13 @@ use borrow.Author.Needs.{needs}
 use Rattle.refusal_text.proofs.put_trouble.Statement.{statement}
 use Rattle.refusal_text.proofs.put_trouble.Tie as tie
 
-others : tie.Need-returns-7
+others : tie.Need-returns-8
 unfolding trouble
 others c =
     let r = c .before .before .before .before .before .match .rest in
     others-said troubles _ (c .before .before .before .before .before .before .before .args .fault)
-    (r .0 .0 .0 .0 .0 .1, (r .0 .0 .0 .0 .1, (r .0 .0 .0 .1, (r .0 .0 .1, (r .0 .1, (r .1, tt))))))
-    (c .before .before .put-bytes7 .ensures) (omega arith)
+    (r .0 .0 .0 .0 .0 .0 .1, (r .0 .0 .0 .0 .0 .1, (r .0 .0 .0 .0 .1, (r .0 .0 .0 .1, (r .0 .0 .1, (r .0 .1, (r .1, tt)))))))
+    (c .before .before .put-bytes8 .ensures) (omega arith)
 
 pub put-trouble-spec : {M : Type 1} → statement M
 unfolding wordsFor trouble
@@ -23,7 +23,7 @@ put-trouble-spec =
     (λ c. search needs) (λ c κs. search needs) (λ c. search needs) (λ c κs. search needs)
     (λ c. search needs) (λ c κs. search needs) (λ c. search needs) (λ c κs. search needs)
     (λ c. search needs) (λ c κs. search needs) (λ c. search needs) (λ c κs. search needs)
-    (λ c. search needs) (λ c κs. search needs) (λ c. search needs)
+    (λ c. search needs) (λ c κs. search needs) (λ c. search needs) (λ c κs. search needs) (λ c. search needs)
     (λ c. put-as trouble wordsWidth (c .before .before .before .before .before .match .keys1) (c .before .before .put-bytes .ensures) (omega arith))
     (λ c. search needs)
     (λ c. put-as trouble wordsWidth (c .before .before .before .before .before .match .keys2) (c .before .before .put-bytes2 .ensures) (omega arith))
@@ -35,4 +35,6 @@ put-trouble-spec =
     (λ c. put-as trouble wordsWidth (c .before .before .before .before .before .match .keys5) (c .before .before .put-bytes5 .ensures) (omega arith))
     (λ c. search needs)
     (λ c. put-as trouble wordsWidth (c .before .before .before .before .before .match .keys6) (c .before .before .put-bytes6 .ensures) (omega arith))
+    (λ c. search needs)
+    (λ c. put-as trouble wordsWidth (c .before .before .before .before .before .match .keys7) (c .before .before .put-bytes7 .ensures) (omega arith))
     (λ c. search needs) others)

@@ -1,8 +1,6 @@
--- `scan`: a text that is too long, one with a fault, and one of which all numbers are stored. One law for each.
-use mathlib.Core.Path.{_≡_}
+-- `scan`: a text that is too long, and the part of any other after its mark. One law for each.
 use native.Mathlib.Omega.{arith}
-use lib.ListN.{length}
-use Rattle.scan.proofs.ScanLaws.{scan-long, scan-faulty, scan-numbers}
+use Rattle.scan.proofs.ScanLaws.{scan-long, scan-short, lent-short, mark-fits}
 use borrow.Author.Needs.{needs}
 use Rattle.scan.proofs.scan.Statement.{statement}
 use Rattle.scan.proofs.scan.Tie as tie
@@ -10,23 +8,23 @@ use Rattle.scan.proofs.scan.Tie as tie
 returns : tie.Need-returns
 returns c = scan-long (c .if1 .taken)
 
-turn-end-requires : tie.Need-turn-end-requires
-turn-end-requires c κs = (c .before .read-bytes .ensures .within, search needs)
+sub-scan-text : tie.Need-sub-scan-text
+sub-scan-text c = rw (c .mark-size .ensures) (mark-fits _)
+
+part-scan-text-start : tie.Need-part-scan-text-start
+part-scan-text-start c = rw (c .mark-size .ensures) (mark-fits _)
+
+scan-text-requires : tie.Need-scan-text-requires
+scan-text-requires c κs =
+    let w = c .before .before in
+    (lent-short (w .before .before .before .args .bytes .now) (w .mark-size .result) (w .before .if1 .left), search needs)
 
 returns-2 : tie.Need-returns-2
 returns-2 c =
-    let w = c .before .before .before .before in
-    let told = c .before .before .turn-end .ensures in
-    scan-faulty (w .before .before .if1 .left) (search needs) (w .read-bytes .ensures) (told .0) (told .1) (c .if2 .taken)
-
-returns-3 : tie.Need-returns-3
-returns-3 c =
-    let w = c .before .before .before .before in
-    let told = c .before .before .turn-end .ensures in
-    scan-numbers (w .before .before .if1 .left) (search needs) (w .read-bytes .ensures) (told .0) (told .1) (c .if2 .left)
+    let w = c .before .before .before in
+    scan-short (w .before .if1 .left) (w .mark-size .ensures) (c .scan-text .ensures)
 
 pub scan-spec : {M : Type 1} → statement M
 scan-spec =
     tie.close
-    (tie.spec
-    returns (λ c κs. search needs) turn-end-requires returns-2 returns-3)
+    (tie.spec returns (λ c κs. search needs) sub-scan-text part-scan-text-start (λ c. search needs) scan-text-requires returns-2)
