@@ -7,6 +7,12 @@ if [ ! -f "$archive" ] || [ -n "$(find crates crates.txt -type f -newer "$archiv
     rt staticlib planner_c
 fi
 cargo test --release --offline --manifest-path rust/Cargo.toml -- --nocapture
-cc -std=c99 -Wall -Wextra -Werror -O2 -Ic c/plan.c "$archive" -o target/plan_c
-target/plan_c lists/P | diff - crates/plan/stdout
+
+compile() {
+    cc -std=c99 -Wall -Wextra -Werror -O2 -Ic "$1" "$archive" -o "$2"
+}
+compile c/test_buffers.c target/test_buffers
+target/test_buffers
+compile c/plan.c target/plan_c
+bash c/test_plan.sh target/plan_c
 echo "test-rust: ok"

@@ -3,6 +3,9 @@
 //! A delay list is a run of 32-bit words. Each call gives a result, or a [`Refusal`] that changed no buffer.
 //! `answer` and `scratch` are lent by the caller, and what they held before does not matter.
 
+use std::error::Error;
+use std::fmt;
+
 const REPLY_PLACES: usize = 5;
 
 /// The largest counts of a list.
@@ -26,6 +29,34 @@ pub struct Refusal {
     pub number: u32,
     pub place: usize,
 }
+
+impl Refusal {
+    /// What the number means, in plain words.
+    pub fn meaning(&self) -> &'static str {
+        match self.number {
+            1 => "the scratch buffer is too short",
+            2 => "the answer buffer is too short",
+            3 => "period, offset or timing out of range, or not one timing for each register",
+            11 => "the count of words or numbers is wrong",
+            12 => "the count of registers or of pairs is out of range",
+            13 => "a word of the wrong kind: the list is damaged",
+            14 => "a register is not below the count of registers",
+            15 => "a delay is above 1000000 picoseconds",
+            16 => "a least delay is above its greatest",
+            17 => "the sum at the end is wrong: the list is damaged",
+            _ => "no call is refused with this number",
+        }
+    }
+}
+
+/// One line, such as `refused 14 at 4: a register is not below the count of registers`.
+impl fmt::Display for Refusal {
+    fn fmt(&self, f: &mut fmt::Formatter<'_>) -> fmt::Result {
+        write!(f, "refused {} at {}: {}", self.number, self.place, self.meaning())
+    }
+}
+
+impl Error for Refusal {}
 
 /// The counts of a list.
 #[derive(Clone, Copy, Debug, PartialEq, Eq)]

@@ -1,16 +1,47 @@
-//! A buffer lent to the planner: dirty, and with guards on both sides that nobody may touch.
+//! What is lent to the planner, with guards on both sides that nobody may touch: a buffer, which is dirty, or an input, which
+//! has to stay as it is.
+use std::hint::black_box;
+
 use crate::random::Random;
 
-const GUARD: usize = 8;
+const GUARD: usize = 16;
 
-pub struct Lent {
-    cells: Vec<u32>,
-    before: Vec<u32>,
+/// What a buffer is made of.
+pub trait Cell: Copy + PartialEq {
+    fn dirt(random: &mut Random) -> Self;
 }
 
-impl Lent {
-    pub fn new(random: &mut Random, len: usize) -> Lent {
-        let cells: Vec<u32> = (0..len + 2 * GUARD).map(|_| random.word()).collect();
+impl Cell for u32 {
+    fn dirt(random: &mut Random) -> u32 {
+        random.word()
+    }
+}
+
+impl Cell for u8 {
+    fn dirt(random: &mut Random) -> u8 {
+        random.word() as u8
+    }
+}
+
+pub struct Lent<T> {
+    cells: Vec<T>,
+    before: Vec<T>,
+}
+
+impl<T: Cell> Lent<T> {
+    pub fn new(random: &mut Random, len: usize) -> Lent<T> {
+        Lent::from((0..len + 2 * GUARD).map(|_| T::dirt(random)).collect())
+    }
+
+    /// An input of these values.
+    pub fn input(random: &mut Random, values: &[T]) -> Lent<T> {
+        let mut cells: Vec<T> = (0..GUARD).map(|_| T::dirt(random)).collect();
+        cells.extend(values);
+        cells.extend((0..GUARD).map(|_| T::dirt(random)));
+        Lent::from(cells)
+    }
+
+    fn from(cells: Vec<T>) -> Lent<T> {
         Lent { before: cells.clone(), cells }
     }
 
@@ -18,17 +49,24 @@ impl Lent {
         self.cells.len() - 2 * GUARD
     }
 
-    pub fn slice(&mut self) -> &mut [u32] {
+    pub fn slice(&mut self) -> &mut [T] {
         let end = self.cells.len() - GUARD;
         &mut self.cells[GUARD..end]
     }
 
-    /// The first places hold `stored`, and everything else is as it was.
-    pub fn holds(&self, stored: &[u32]) -> bool {
+    /// The first places hold `stored`, and everything else is as it was. The compiler may not take a slice that was lent to
+    /// be read for unchanged: the cells are looked at anew.
+    pub fn holds(&self, stored: &[T]) -> bool {
+        let cells = black_box(&self.cells);
         let end = GUARD + stored.len();
-        end <= self.cells.len() - GUARD
-            && self.cells[..GUARD] == self.before[..GUARD]
-            && self.cells[GUARD..end] == *stored
-            && self.cells[end..] == self.before[end..]
+        end <= cells.len() - GUARD
+            && cells[..GUARD] == self.before[..GUARD]
+            && cells[GUARD..end] == *stored
+            && cells[end..] == self.before[end..]
+    }
+
+    /// Everything is as it was.
+    pub fn kept(&self) -> bool {
+        self.holds(&[])
     }
 }

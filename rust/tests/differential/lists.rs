@@ -12,6 +12,7 @@ fn try_read(random: &mut Random, words: &[u32], tally: &mut Tally) {
     if let Ok(net) = &decoded {
         let room = random.room(4 * net.pairs.len());
         answer = Lent::new(random, room);
+        tally.lent("answer", room, 4 * net.pairs.len());
     } else if random.one_in(2) {
         answer = Lent::new(random, words.len());
     }
@@ -20,8 +21,9 @@ fn try_read(random: &mut Random, words: &[u32], tally: &mut Tally) {
         Ok(net) => (Ok(Counts { registers: net.registers as u32, pairs: net.pairs.len() as u32 }), net.numbers()),
         Err(refusal) => (Err(refusal), vec![]),
     };
-    assert_eq!(read(words, answer.slice()), expected, "{words:x?}");
-    assert!(answer.holds(&stored), "{words:x?}");
+    let mut list = Lent::input(random, words);
+    assert_eq!(read(list.slice(), answer.slice()), expected, "{words:x?}");
+    assert!(list.kept() && answer.holds(&stored), "{words:x?}");
     if let Ok(counts) = expected {
         let mut back = Lent::new(random, words.len());
         assert_eq!(write(counts.registers, &stored, back.slice()), Ok(words.len()));
@@ -31,15 +33,20 @@ fn try_read(random: &mut Random, words: &[u32], tally: &mut Tally) {
 }
 
 fn try_write(random: &mut Random, n: u32, numbers: &[u32], tally: &mut Tally) {
-    let room = random.room(3 * (numbers.len() / 4) + 2);
-    let mut answer = Lent::new(random, room);
-    let (expected, stored) = match given(n, numbers) {
-        Ok(net) if room < 3 * net.pairs.len() + 2 => (refuse(2, 0), vec![]),
-        Ok(net) => (Ok(3 * net.pairs.len() + 2), encode(&net)),
+    let asked = 3 * (numbers.len() / 4) + 2;
+    let room = random.room(asked);
+    let (mut input, mut answer) = (Lent::input(random, numbers), Lent::new(random, room));
+    let net = given(n, numbers);
+    if net.is_ok() {
+        tally.lent("answer", room, asked);
+    }
+    let (expected, stored) = match net {
+        Ok(_) if room < asked => (refuse(2, 0), vec![]),
+        Ok(net) => (Ok(asked), encode(&net)),
         Err(refusal) => (Err(refusal), vec![]),
     };
-    assert_eq!(write(n, numbers, answer.slice()), expected, "{n} {numbers:?}");
-    assert!(answer.holds(&stored), "{n} {numbers:?}");
+    assert_eq!(write(n, input.slice(), answer.slice()), expected, "{n} {numbers:?}");
+    assert!(input.kept() && answer.holds(&stored), "{n} {numbers:?}");
     if expected.is_ok() {
         let mut back = Lent::new(random, numbers.len());
         assert_eq!(read(&stored, back.slice()), Ok(Counts { registers: n, pairs: numbers.len() as u32 / 4 }));

@@ -9,3 +9,4 @@ mod reports;
 mod schedules;
 mod splits;
 mod tally;
+mod trails;

@@ -1,16 +1,24 @@
 //! Job 5: the full plan.
+use std::collections::BTreeSet;
+
 use darnerflax::{plan, Plan};
 
 use crate::lent::Lent;
 use crate::random::{exact_net, net, words, Random, Size};
 use crate::reference::{decode, encode, refuse, Net};
 use crate::tally::Tally;
+use crate::trails::{least_timings, longest_cycle, Fraction};
 
 fn try_plan(random: &mut Random, words: &[u32], tally: &mut Tally) {
     let decoded = decode(words);
     let (n, need) = decoded.as_ref().map_or((3, 9), |net| (net.registers, net.scratch()));
     let (room, spare) = (random.room(2 * n).max(random.pick(&[0, 2 * n])), random.room(need).max(random.pick(&[0, need])));
+    let mut list = Lent::input(random, words);
     let (mut answer, mut scratch) = (Lent::new(random, room), Lent::new(random, spare));
+    if decoded.is_ok() {
+        tally.lent("answer", room, 2 * n);
+        tally.lent("scratch", spare, need);
+    }
     let expected = decoded.and_then(|net| {
         if room < 2 * n {
             refuse(2, 0)
@@ -21,17 +29,21 @@ fn try_plan(random: &mut Random, words: &[u32], tally: &mut Tally) {
         }
     });
     let told = expected.as_ref().map(|(plan, _)| *plan).map_err(|refusal| *refusal);
-    assert_eq!(plan(words, answer.slice(), scratch.slice()), told, "{words:x?}");
+    assert_eq!(plan(list.slice(), answer.slice(), scratch.slice()), told, "{words:x?}");
     let zeros = vec![0; if expected.is_ok() { need } else { 0 }];
     let stored = expected.map(|(_, timings)| timings).unwrap_or_default();
-    assert!(answer.holds(&stored), "{words:x?}");
+    assert!(list.kept() && answer.holds(&stored), "{words:x?}");
     assert!(scratch.holds(&zeros), "{words:x?}");
-    tally.answer(&told, |p| match (p.free < p.two, p.two < p.common) {
+    tally.answer(&told, order);
+}
+
+fn order(plan: &Plan) -> &'static str {
+    match (plan.free < plan.two, plan.two < plan.common) {
         (false, false) => "free = two = common",
         (false, true) => "free = two < common",
         (true, false) => "free < two = common",
         (true, true) => "free < two < common",
-    });
+    }
 }
 
 const ORDERS: &[&str] = &["free = two = common", "free = two < common", "free < two = common", "free < two < common"];
@@ -79,29 +91,44 @@ fn full_nets_planned() {
     tally.all_met("full nets planned", &planned(&["1", "2"]));
 }
 
-/// Against all periods, splits and offsets, tried one by one, in wholes, halves and thirds.
+/// Against all periods, offsets and splits, tried one by one, and all trails for the free part; rivals also have an offset in
+/// halves, thirds and fifths.
 #[test]
 fn tiny_nets_planned_plainly() {
     let mut random = Random::new(34);
-    for _ in 0..4_000 {
-        let net = net(&mut random, Size { registers: 4, pairs: 5, delay: 7 });
+    let mut tally = Tally::default();
+    for _ in 0..40_000 {
+        let net = net(&mut random, Size { registers: 6, pairs: 9, delay: 8 });
         let (two, offset) = net.plain_two();
-        let mut answer = Lent::new(&mut random, 2 * net.registers);
-        let mut scratch = Lent::new(&mut random, net.scratch());
-        let Plan { common, free, .. } = net.plan().0;
-        assert_eq!(plan(&encode(&net), answer.slice(), scratch.slice()), Ok(Plan { common, free, two, offset }), "{net:?}");
-        let split = net.plain_split(two, offset).expect("the search found one");
-        assert_eq!(answer.slice()[net.registers..], split, "{net:?}");
-        for parts in [2, 3] {
+        let free = longest_cycle(&net).map_or(1, Fraction::whole);
+        let expected = Plan { common: net.common(), free, two, offset };
+        let mut stored = least_timings(&net, free);
+        stored.extend(net.plain_split(two, offset).expect("the search found one"));
+        let (mut answer, mut scratch) = (Lent::new(&mut random, 2 * net.registers), Lent::new(&mut random, net.scratch()));
+        assert_eq!(plan(&encode(&net), answer.slice(), scratch.slice()), Ok(expected), "{net:?}");
+        assert!(answer.holds(&stored) && scratch.holds(&vec![0; net.scratch()]), "{net:?}");
+        for parts in [2, 3, 5] {
             no_fraction_beats(&net.times(parts), parts * (two - 1), parts * two, parts * offset);
         }
+        count_shapes(&net, &mut tally);
+        tally.count(order(&expected));
     }
+    tally.all_met("tiny nets planned, all periods, offsets and splits", &[ORDERS, SHAPES].concat());
 }
 
-/// No offset works at `shorter`, and none below `least` at `period`; all in parts of a picosecond.
+/// No offset works at `shorter`, and none below `least` at `period`; all in parts of a picosecond. A split that works at some
+/// period works at every longer one, so that no period below `shorter` has to be tried.
 fn no_fraction_beats(net: &Net, shorter: u32, period: u32, least: u32) {
     if shorter > 0 {
-        assert!((0..=net.common()).all(|offset| net.plain_split(shorter, offset).is_none()), "{net:?}");
+        assert_eq!(net.plain_offset(shorter), None, "{net:?}");
     }
     assert!((0..least).all(|offset| net.plain_split(period, offset).is_none()), "{net:?}");
+}
+
+const SHAPES: &[&str] = &["six registers", "no pairs", "a register to itself", "a pair twice"];
+
+fn count_shapes(net: &Net, tally: &mut Tally) {
+    let ends: BTreeSet<_> = net.pairs.iter().map(|p| (p.launch, p.capture)).collect();
+    let met = [net.registers == 6, ends.is_empty(), ends.iter().any(|(a, b)| a == b), ends.len() < net.pairs.len()];
+    SHAPES.iter().zip(met).filter(|(_, met)| *met).for_each(|(shape, _)| tally.count(*shape));
 }

@@ -144,7 +144,7 @@ impl Net {
     }
 
     /// Bellman-Ford for longest paths from a source that reaches each register at 0. None if a cycle keeps growing.
-    fn longest(&self, period: u32) -> Option<Vec<u32>> {
+    pub fn longest(&self, period: u32) -> Option<Vec<u32>> {
         let arcs: Vec<(usize, usize, i64)> = self
             .pairs
             .iter()
@@ -249,17 +249,21 @@ impl Net {
         (Plan { common, free, two: low, offset: common - low }, timings)
     }
 
+    /// The least offset at a period by trying all splits at all offsets up to the common period. Those are enough: a pair
+    /// from early to late asks for an offset of at most its least delay, one from late to early for at most the period, and
+    /// with neither the same split works at 0.
+    pub fn plain_offset(&self, period: u32) -> Option<u32> {
+        (0..=self.common()).find(|offset| self.plain_split(period, *offset).is_some())
+    }
+
     /// The two-timing period and its least offset by trying all periods, offsets and splits.
     pub fn plain_two(&self) -> (u32, u32) {
-        let most = self.common() + 2;
         (1..)
-            .find_map(|period| {
-                (0..=most).find(|offset| self.plain_split(period, *offset).is_some()).map(|offset| (period, offset))
-            })
+            .find_map(|period| self.plain_offset(period).map(|offset| (period, offset)))
             .expect("all early does at the common period")
     }
 
-    /// All delays times k: whole offsets of this net are offsets of the other in parts of 1/k.
+    /// All delays times k: whole times of this net are times of the other in parts of 1/k.
     pub fn times(&self, k: u32) -> Net {
         let pairs = self.pairs.iter().map(|p| Pair { least: k * p.least, greatest: k * p.greatest, ..*p }).collect();
         Net { pairs, ..*self }

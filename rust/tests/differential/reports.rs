@@ -3,6 +3,7 @@ use std::fmt::Write;
 
 use darnerflax::{report, TEXT_PLACES};
 
+use crate::lent::Lent;
 use crate::random::{exact_net, net, words, Random, Size};
 use crate::reference::{decode, encode, refuse};
 use crate::tally::Tally;
@@ -30,11 +31,10 @@ fn text(bytes: &[u8], tally: &mut Tally) -> String {
 
 fn try_report(random: &mut Random, bytes: &[u8], tally: &mut Tally) {
     let expected = text(bytes, tally);
-    let dirt = random.word() as u8;
-    let mut place = Box::new([dirt; TEXT_PLACES]);
-    assert_eq!(report(bytes, &mut place), expected.len());
-    assert!(place.starts_with(expected.as_bytes()), "{bytes:x?}");
-    assert!(place[expected.len()..].iter().all(|b| *b == dirt));
+    let (mut list, mut place) = (Lent::input(random, bytes), Lent::new(random, TEXT_PLACES));
+    let text = place.slice().try_into().expect("as many places as a report asks for");
+    assert_eq!(report(list.slice(), text), expected.len());
+    assert!(list.kept() && place.holds(expected.as_bytes()), "{bytes:x?}");
 }
 
 fn bytes_of(random: &mut Random, words: &[u32]) -> Vec<u8> {

@@ -5,6 +5,7 @@ use crate::lent::Lent;
 use crate::random::{damaged, exact_net, net, words, Random, Size};
 use crate::reference::{decode, encode, refuse, Net, Pair};
 use crate::tally::Tally;
+use crate::trails::{least_timings, longest_cycle, Fraction};
 
 fn named(found: &Checked) -> &'static str {
     match found {
@@ -14,7 +15,7 @@ fn named(found: &Checked) -> &'static str {
     }
 }
 
-fn try_check(words: &[u32], period: u32, timings: &[u32], tally: &mut Tally) {
+fn try_check(random: &mut Random, words: &[u32], period: u32, timings: &[u32], tally: &mut Tally) {
     let expected = decode(words).and_then(|net| {
         let fits =
             (1..=1_000_000).contains(&period) && timings.len() == net.registers && timings.iter().all(|t| *t <= 511_000_000);
@@ -24,7 +25,9 @@ fn try_check(words: &[u32], period: u32, timings: &[u32], tally: &mut Tally) {
             refuse(3, 0)
         }
     });
-    assert_eq!(check(words, period, timings), expected, "{words:x?} {period} {timings:?}");
+    let (mut list, mut schedule) = (Lent::input(random, words), Lent::input(random, timings));
+    assert_eq!(check(list.slice(), period, schedule.slice()), expected, "{words:x?} {period} {timings:?}");
+    assert!(list.kept() && schedule.kept(), "{words:x?} {period} {timings:?}");
     tally.answer(&expected, named);
 }
 
@@ -50,7 +53,7 @@ fn try_near(random: &mut Random, periods: Periods, mut timings: Vec<u32>, words:
         4 => timings.iter_mut().for_each(|t| *t = random.upto(511_000_000)),
         _ => {}
     }
-    try_check(words, period, &timings, tally);
+    try_check(random, words, period, &timings, tally);
 }
 
 const CHECKED: &[&str] = &["admissible", "setup", "hold", "3", "11", "12", "13", "14", "15", "16", "17"];
@@ -90,18 +93,22 @@ fn full_schedules_checked() {
 
 fn try_free(random: &mut Random, words: &[u32], tally: &mut Tally) {
     let decoded = decode(words);
-    let room = random.room(decoded.as_ref().map_or(3, |net| net.registers));
-    let mut answer = Lent::new(random, room);
+    let n = decoded.as_ref().map_or(3, |net| net.registers);
+    let room = random.room(n);
+    let (mut list, mut answer) = (Lent::input(random, words), Lent::new(random, room));
+    if decoded.is_ok() {
+        tally.lent("answer", room, n);
+    }
     let (expected, stored) = match decoded {
-        Ok(net) if room < net.registers => (refuse(2, 0), vec![]),
+        Ok(_) if room < n => (refuse(2, 0), vec![]),
         Ok(net) => {
             let (periods, timings) = net.free();
             (Ok(periods), timings)
         }
         Err(refusal) => (Err(refusal), vec![]),
     };
-    assert_eq!(free(words, answer.slice()), expected, "{words:x?}");
-    assert!(answer.holds(&stored), "{words:x?}");
+    assert_eq!(free(list.slice(), answer.slice()), expected, "{words:x?}");
+    assert!(list.kept() && answer.holds(&stored), "{words:x?}");
     tally.answer(&expected, |periods| if periods.free < periods.common { "shorter" } else { "common" });
 }
 
@@ -170,5 +177,50 @@ fn tiny_nets_freed_plainly() {
         let periods = free(&encode(&net), answer.slice()).expect("a list that is accepted");
         assert_eq!((periods.common, periods.free), (net.common(), period), "{net:?}");
         assert!(answer.holds(&timings), "{net:?}");
+    }
+}
+
+/// Against all trails of rules, and against rivals with fractions. The least period with a schedule of any kind is what the
+/// cycles ask for, a fraction; the free period is the next whole number, 1 at least. Times in parts of a picosecond are whole
+/// times of the net with all delays that many times as long, and Bellman-Ford finds them where there are any: from what the
+/// cycles ask for up, at every period in parts, and at none below. So at a whole period below the free one no fraction helps.
+/// Times below 0 do not either: moved up by the same amount, they meet the same rules.
+#[test]
+fn tiny_nets_freed_by_trails() {
+    let mut random = Random::new(18);
+    let mut tally = Tally::default();
+    for _ in 0..40_000 {
+        let net = net(&mut random, Size { registers: 6, pairs: 9, delay: 8 });
+        let bound = longest_cycle(&net);
+        let period = bound.map_or(1, Fraction::whole);
+        let mut answer = Lent::new(&mut random, net.registers);
+        let periods = free(&encode(&net), answer.slice());
+        assert_eq!(periods, Ok(Periods { common: net.common(), free: period }), "{net:?}");
+        assert!(answer.holds(&least_timings(&net, period)), "{net:?}");
+        for parts in [1, 2, 3, 5] {
+            try_parts(&net, bound, parts, period, &mut tally);
+        }
+    }
+    tally.all_met(
+        "tiny nets freed, all trails",
+        &["schedule", "schedule below the free period", "none", "none at a whole period"],
+    );
+}
+
+/// Every period in parts up to the common one: times exist exactly if it is not below the bound, and at whole periods exactly
+/// from the free one up.
+fn try_parts(net: &Net, bound: Option<Fraction>, parts: u32, free: u32, tally: &mut Tally) {
+    let fine = net.times(parts);
+    for period in 1..=fine.common().max(parts) {
+        let found = fine.longest(period).is_some();
+        assert_eq!(found, bound.map_or(true, |bound| bound.at_most(period, parts)), "{net:?} {period}/{parts}");
+        let whole = period % parts == 0;
+        assert!(!whole || found == (period >= parts * free), "{net:?} {period}/{parts}");
+        tally.count(match (found, whole) {
+            (true, false) if period < parts * free => "schedule below the free period",
+            (true, _) => "schedule",
+            (false, false) => "none",
+            (false, true) => "none at a whole period",
+        });
     }
 }

@@ -17,7 +17,12 @@ fn try_split(
     let decoded = decode(words);
     let (n, need) = decoded.as_ref().map_or((3, 9), |net| (net.registers, net.scratch()));
     let (room, spare) = (random.room(n).max(random.pick(&[0, n])), random.room(need).max(random.pick(&[0, need])));
+    let mut list = Lent::input(random, words);
     let (mut answer, mut scratch) = (Lent::new(random, room), Lent::new(random, spare));
+    if decoded.is_ok() {
+        tally.lent("answer", room, n);
+        tally.lent("scratch", spare, need);
+    }
     let expected = decoded.and_then(|net| {
         if !(1..=1_000_000).contains(&period) || offset > 1_000_000 {
             refuse(3, 0)
@@ -30,10 +35,11 @@ fn try_split(
         }
     });
     let told = expected.clone().map(|found| if found.is_some() { Split::Found } else { Split::None });
-    assert_eq!(split(words, period, offset, answer.slice(), scratch.slice()), told, "{words:x?} {period} {offset}");
+    let found = split(list.slice(), period, offset, answer.slice(), scratch.slice());
+    assert_eq!(found, told, "{words:x?} {period} {offset}");
     let zeros = vec![0; if expected.is_ok() { need } else { 0 }];
     let stored = expected.ok().flatten().unwrap_or_default();
-    assert!(answer.holds(&stored), "{words:x?} {period} {offset}");
+    assert!(list.kept() && answer.holds(&stored), "{words:x?} {period} {offset}");
     assert!(scratch.holds(&zeros), "{words:x?} {period} {offset}");
     tally.answer(&told, |s| if *s == Split::Found { "found" } else { "none" });
 }
@@ -78,7 +84,7 @@ fn tiny_nets_split_plainly() {
     let mut tally = Tally::default();
     for _ in 0..150_000 {
         let delay = random.pick(&[3, 8, 1_000_000]);
-        let net = net(&mut random, Size { registers: 5, pairs: 8, delay });
+        let net = net(&mut random, Size { registers: 6, pairs: 8, delay });
         let words = words(&mut random, &net);
         let (period, offset) = near(&mut random, &net);
         try_split(&mut random, &words, period, offset, plainly, &mut tally);

@@ -1,0 +1,100 @@
+#!/usr/bin/env bash
+# Runs the C example, the program that is named, and looks at what it writes and how it ends. From the repository's root.
+set -eu
+plan=$1
+out=target/test_plan.out
+err=target/test_plan.err
+runs=0
+
+fail() {
+    echo "test_plan: $1"
+    exit 1
+}
+
+# with the arguments after the first, plan ends with that status; what it writes is in $out and $err
+ends() {
+    local expected=$1 status=0
+    shift
+    "$plan" "$@" > "$out" 2> "$err" || status=$?
+    [ "$status" = "$expected" ] || fail "'$*' ends with status $status, not $expected"
+    runs=$((runs + 1))
+}
+
+holds() {
+    grep -qF -- "$2" "$1" || fail "$1 does not hold '$2': $(cat "$1")"
+}
+
+empty() {
+    [ ! -s "$1" ] || fail "$1 is not empty: $(cat "$1")"
+}
+
+# ---- a list from a file and from standard input
+
+planned() {
+    diff "$out" crates/plan/stdout || fail "another plan"
+    empty "$err"
+}
+ends 0 lists/P
+planned
+ends 0 < lists/P
+planned
+
+# ---- what cannot be opened or read is named
+
+unread() {
+    empty "$out"
+    holds "$err" "plan: $1"
+}
+ends 2 target/no_such_file
+unread "target/no_such_file cannot be opened: "
+ends 2 lists
+unread "lists cannot be read: "
+ends 2 <&-
+unread "standard input cannot be read: "
+
+# ---- usage, with nothing read
+
+wrong_use() {
+    ends 2 "$@"
+    empty "$out"
+    holds "$err" "usage: plan [FILE]"
+}
+reads_nothing() {
+    local left
+    left=$(echo unread | { "$plan" "$@" > "$out" 2> "$err" || true; cat; })
+    [ "$left" = unread ] || fail "'$*' reads standard input"
+    runs=$((runs + 1))
+}
+ends 0 --help
+holds "$out" "usage: plan [FILE]"
+empty "$err"
+wrong_use lists/P lists/P
+wrong_use --help lists/P
+wrong_use -x
+reads_nothing --help
+reads_nothing lists/P lists/P
+reads_nothing -x
+
+# ---- a write that fails
+
+for printed in lists/P lists/P.txt --help; do
+    out=/dev/full ends 3 "$printed"
+    holds "$err" "plan: standard output cannot be written: "
+done
+
+# ---- a text in place of a list, and lists that are no text
+
+hint="this looks like a text; make_list makes a list of it"
+ends 1 lists/P.txt
+holds "$out" "refused 11 at 0"
+holds "$err" "$hint"
+for text in '8\n' '# a chip\n2\n' '\xef\xbb\xbf2\n0 1 7 10\n' '2\r\n0,1,7,10\r\n' '\n 2\n0 1 7 10\n '; do
+    ends 1 < <(printf %b "$text")
+    holds "$err" "$hint"
+done
+for bytes in '' '\x02\x20\x00\x20' '\x30\x30\x09\x20\x01\x04\x00\x40' '\x02\x20\x00\x20\x01'; do
+    ends 1 < <(printf %b "$bytes")
+    holds "$out" "refused 11 at 0"
+    empty "$err"
+done
+echo "test_plan: $runs runs of plan: lists from a file and from standard input, texts, arguments, what cannot be read or written"

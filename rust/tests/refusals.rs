@@ -1,0 +1,96 @@
+//! What a refusal says: one line for each number, in the words that the programs print, and an error like any other.
+use std::error::Error;
+use std::path::Path;
+
+use darnerflax::*;
+
+/// 0-1 7/10 and 1-0 1/3.
+const P: [u32; 8] = [0x2000_2002, 0x4000_0001, 0x6000_0007, 0x8000_000a, 0x4000_0400, 0x6000_0001, 0x8000_0003, 0xe000_2418];
+
+const LINES: [(u32, &str); 10] = [
+    (1, "refused 1 at 0: the scratch buffer is too short"),
+    (2, "refused 2 at 0: the answer buffer is too short"),
+    (3, "refused 3 at 0: period, offset or timing out of range, or not one timing for each register"),
+    (11, "refused 11 at 0: the count of words or numbers is wrong"),
+    (12, "refused 12 at 0: the count of registers or of pairs is out of range"),
+    (13, "refused 13 at 5: a word of the wrong kind: the list is damaged"),
+    (14, "refused 14 at 4: a register is not below the count of registers"),
+    (15, "refused 15 at 6: a delay is above 1000000 picoseconds"),
+    (16, "refused 16 at 6: a least delay is above its greatest"),
+    (17, "refused 17 at 7: the sum at the end is wrong: the list is damaged"),
+];
+
+/// A plan of P with the word at a place changed, in room for two registers and two pairs.
+fn plan_with(place: usize, word: u32) -> Result<Plan, Refusal> {
+    let mut words = P;
+    words[place] = word;
+    plan(&words, &mut [0; 4], &mut [0; 20])
+}
+
+/// A call that is refused with the number.
+fn refused(number: u32) -> Refusal {
+    let call = match number {
+        1 => plan(&P, &mut [0; 4], &mut [0; 19]),
+        2 => plan(&P, &mut [0; 3], &mut [0; 20]),
+        3 => return check(&P, 0, &[0, 3]).unwrap_err(),
+        11 => plan(&P[..7], &mut [0; 4], &mut [0; 20]),
+        12 => plan_with(0, 0x2000_0002),
+        13 => plan_with(5, 0x4000_0001),
+        14 => plan_with(4, 0x4000_0800),
+        15 => plan_with(6, 0x8000_0000 + 1_000_001),
+        16 => plan_with(6, 0x8000_0000),
+        _ => plan_with(7, 0xe000_2419),
+    };
+    call.unwrap_err()
+}
+
+#[test]
+fn each_number_in_words() {
+    for (number, line) in LINES {
+        let refusal = refused(number);
+        assert_eq!((refusal.number, refusal.to_string().as_str()), (number, line));
+    }
+}
+
+#[test]
+fn a_number_of_no_call() {
+    let made_up = Refusal { number: 99, place: 7 };
+    assert_eq!(made_up.to_string(), "refused 99 at 7: no call is refused with this number");
+}
+
+/// The rows of `meanings` in the definition of what the programs print: `(11, " the count ..\n")`.
+fn meanings() -> Vec<(u32, String)> {
+    let file = Path::new(env!("CARGO_MANIFEST_DIR")).join("../crates/refusal_text/specs/RefusalText.antt");
+    let text = std::fs::read_to_string(file).expect("the definition of the lines of a refusal");
+    let (_, from) = text.split_once("\nmeanings =\n").expect("the rows of `meanings`");
+    let (rows, _) = from.split_once("[]").expect("the end of `meanings`");
+    let row = |line: &str| {
+        let (number, rest) = line.split_once('(')?.1.split_once(", \" ")?;
+        Some((number.parse().ok()?, rest.split_once("\\n\")")?.0.to_string()))
+    };
+    rows.lines().filter_map(row).collect()
+}
+
+/// The programs say "a buffer" for 1 and 2; here it is known which.
+#[test]
+fn the_words_of_the_programs() {
+    let rows = meanings();
+    assert!(rows.len() >= 8, "{rows:?}");
+    for (number, words) in rows.into_iter().filter(|(number, _)| *number > 2) {
+        assert_eq!(Refusal { number, place: 0 }.meaning(), words);
+    }
+}
+
+fn shortest(words: &[u32]) -> Result<u32, Box<dyn Error>> {
+    let count: usize = "4".parse()?;
+    Ok(plan(words, &mut vec![0; count], &mut [0; 20])?.two)
+}
+
+#[test]
+fn passed_on_as_an_error() {
+    assert_eq!(shortest(&P).unwrap(), 7);
+    let error = shortest(&P[..7]).unwrap_err();
+    assert_eq!(error.to_string(), LINES[3].1);
+    assert_eq!(error.downcast_ref(), Some(&Refusal { number: 11, place: 0 }));
+    assert!(error.source().is_none());
+}
