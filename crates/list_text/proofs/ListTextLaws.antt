@@ -28,14 +28,17 @@ use Rattle.list_format.proofs.ListLaws.{numbers-in}
 use Rattle.list_format.proofs.ReadBack.{numbers-length}
 use Rattle.list_format.proofs.WriteBack.{given-in, words-length}
 use Rattle.text_pieces.specs.Pieces.{Put}
+use Rattle.text_pieces.specs.Saying.{SaidAs, text as sayText}
+use Rattle.text_pieces.specs.declared.Said.the-variants.{Text, Trouble}
 use Rattle.text_pieces.proofs.PutLaws.{put-within}
-use Rattle.refusal_text.specs.RefusalText.{lineWidth, refusalLine, faultLine}
+use Rattle.text_pieces.proofs.SaidLaws.{said-text, said-trouble}
+use Rattle.refusal_text.specs.RefusalText.{lineWidth, refusalLine, refusedSaying, faultLine}
 use Rattle.list_bytes.specs.ListBytes.{maxWords, maxBytes}
 use Rattle.scan.specs.declared.Scanned.{Scanned}
 use Rattle.scan.specs.declared.Scanned.the-variants.{Numbers, Faulty}
 use Rattle.scan.specs.Scan.{maxNumbers, storedOf, Counted, ScanAs}
 use Rattle.scan.proofs.StoredLaws.{stored-some, stored-first}
-use Rattle.list_text.specs.ListText.{listWidth, shownPlaces, textOf, shownDone, Product, listBytes, errorLine, madeRefused, madeDone}
+use Rattle.list_text.specs.ListText.{listWidth, shownPlaces, textOf, shownSaid, Product, listBytes, errorLine, madeRefused, madeDone}
 use Rattle.list_text.specs.ListText.{madeFrom, madeOf, made, storedFor, returnedFor, MadeAs}
 use Rattle.list_text.specs.declared.Made.{Made}
 use Rattle.list_text.specs.declared.Made.the-variants.{Bytes, Fault}
@@ -48,9 +51,9 @@ module _ {ws now : List ℕ} {r : Reading} (a : ReadAs ws (zeros (4 * maxPairs))
 
   pub show-refused : {number place next : ℕ} {text text′ : List ℕ} → r ≡ Refused number place
       → Put lineWidth (refusalLine number place) text 0 text′ next
-      → Put shownPlaces (told refusalLine shownDone (reading ws (4 * maxPairs))) text 0 text′ next
+      → SaidAs shownPlaces (told refusedSaying shownSaid (reading ws (4 * maxPairs))) text text′ (Trouble next)
   unfolding readReply
-  show-refused e put = rw (told-refusal refusalLine shownDone (reading ws (4 * maxPairs)) (rw e at reply)) (put-within put (omega (arith, put .most)))
+  show-refused e put = rw (told-refusal refusedSaying shownSaid (reading ws (4 * maxPairs)) (rw e at reply)) (said-trouble put (omega arith))
 
   module _ {n m : ℕ} (e : r ≡ Read n m) where
     read-told : numbers (n ∷ m ∷ []) ≡ replyOf (reading ws (4 * maxPairs))
@@ -93,11 +96,11 @@ module _ {ws now : List ℕ} {r : Reading} (a : ReadAs ws (zeros (4 * maxPairs))
     read-size = rw numbers-are (sym count-size)
 
     pub show-read : {next : ℕ} {text text′ : List ℕ} → Put listWidth (textOf n (take (4 * m) now)) text 0 text′ next
-        → Put shownPlaces (told refusalLine shownDone (reading ws (4 * maxPairs))) text 0 text′ next
+        → SaidAs shownPlaces (told refusedSaying shownSaid (reading ws (4 * maxPairs))) text text′ (Text next)
     unfolding told
     show-read put =
-        let here : told refusalLine shownDone (reading ws (4 * maxPairs)) ≡ textOf n (take (4 * m) now) = rw (is, numbers-are, registers-are) in
-        rw here (put-within put (omega (arith, put .most)))
+        let here : told refusedSaying shownSaid (reading ws (4 * maxPairs)) ≡ sayText (textOf n (take (4 * m) now)) = rw (is, numbers-are, registers-are) in
+        rw here (said-text put (omega arith))
 
 -- ---- making
 

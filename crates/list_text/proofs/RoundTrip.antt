@@ -29,10 +29,11 @@ use Rattle.scan.specs.Scan.{kept, after, ended, last, scannedNumbers, markSize,
 use Rattle.scan.proofs.CaseLaws.{end-kept, finish-ends, blank-line, pair-line}
 use Rattle.scan.proofs.ScanLaws.{no-mark}
 use Rattle.scan.proofs.ReadsLaws.{Reads, reads-none, reads-then, at, reads-space, reads-newline, reads-promise, not-second}
-use Rattle.refusal_text.specs.RefusalText.{refusalLine}
+use Rattle.text_pieces.specs.Saying.{text as sayText, bytesOf}
+use Rattle.refusal_text.specs.RefusalText.{refusedSaying}
 use Rattle.list_bytes.specs.ListBytes.{maxWords, maxBytes, listOf}
 use Rattle.list_bytes.proofs.LoadLaws.{list-back}
-use Rattle.list_text.specs.ListText.{fourLine, pairLine, textOf, shownDone, shownText, listBytes, madeOf, made}
+use Rattle.list_text.specs.ListText.{fourLine, pairLine, textOf, shownSaid, shownText, listBytes, madeOf, made}
 
 -- a number of at most k digits, with the byte that ends it
 short : (k n end : ℕ) → n < 10 ^ suc k → length (number n end) ≤ k + 2
@@ -173,7 +174,7 @@ module _ (ws : List ℕ) (l : ListIn ws) where
   made-is = rw (scan-is, stored-is, read-back ws l maxWords (omega (arith, l .head .size, l .head .few)))
 
 -- what is shown of an accepted list
-shown-is : (ws : List ℕ) → IsAccepted ws → told refusalLine shownDone (reading ws (4 * maxPairs)) ≡ textOf (registers ws) (numbersOf ws)
+shown-is : (ws : List ℕ) → IsAccepted ws → told refusedSaying shownSaid (reading ws (4 * maxPairs)) ≡ sayText (textOf (registers ws) (numbersOf ws))
 unfolding told reading
 shown-is ws a =
     let few = accepted-in ws a .head .few in
@@ -193,7 +194,9 @@ counts bs = go (ltb maxBytes (length bs)) refl (eqb (length bs % 4) 0) refl
     go false e false e′ h = absurd (omega arith)
 
 -- what is shown of the bytes of an accepted list makes a list again, of those bytes
-pub shown-made : (bs : List ℕ) → ((i : ℕ) → getD bs i 0 < 2 ^ byteBits) → IsAccepted (listOf bs) → made (shownText bs) ≡ listBytes bs
+pub shown-made : (bs : List ℕ) → ((i : ℕ) → getD bs i 0 < 2 ^ byteBits) → IsAccepted (listOf bs)
+    → made (bytesOf (shownText bs)) ≡ listBytes bs
+unfolding bytesOf
 shown-made bs small a =
     let l = accepted-in (listOf bs) a in
     let both = counts bs (omega (arith, l .head .size)) in

@@ -14,7 +14,8 @@ use Rattle.text_pieces.specs.Pieces.{number, space, newline, numberWidth, Put}
 use Rattle.scan.specs.declared.Scanned.{Scanned}
 use Rattle.scan.specs.declared.Scanned.the-variants.{Numbers, Faulty}
 use Rattle.scan.specs.Scan.{scanned, storedOf}
-use Rattle.refusal_text.specs.RefusalText.{lineWidth, refusalLine, faultLine}
+use Rattle.text_pieces.specs.Saying.{Saying, text}
+use Rattle.refusal_text.specs.RefusalText.{lineWidth, refusalLine, refusedSaying, faultLine}
 use Rattle.list_bytes.specs.ListBytes.{maxWords, maxBytes, listOf}
 use Rattle.list_text.specs.declared.Made.{Made}
 use Rattle.list_text.specs.declared.Made.the-variants.{Bytes, Fault}
@@ -51,9 +52,12 @@ textOf n xs = number n space ++ (number (givenCount xs) newline ++ run (pairLine
 abbrev pub shownDone : List ℕ → List ℕ → List ℕ
 shownDone returned stored = textOf (getD returned 0 0) stored
 
--- what is shown for the bytes of a list
-abbrev pub shownText : List ℕ → List ℕ
-shownText bs = told refusalLine shownDone (reading (listOf bs) (4 * maxPairs))
+abbrev pub shownSaid : List ℕ → List ℕ → Saying
+shownSaid returned stored = text (shownDone returned stored)
+
+-- what is said for the bytes of a list
+abbrev pub shownText : List ℕ → Saying
+shownText bs = told refusedSaying shownSaid (reading (listOf bs) (4 * maxPairs))
 
 -- ---- from a text to the bytes of its list
 

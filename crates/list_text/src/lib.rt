@@ -4,11 +4,12 @@ ghost use Prim.Native.Nat.{_+_, _*_, _≤_};
 ghost use lib.ListN.{length};
 ghost use Rattle.text_pieces.specs.Pieces.{Put};
 ghost use Rattle.refusals.specs.Reply.{told};
-ghost use Rattle.refusal_text.specs.RefusalText.{refusalLine};
+ghost use Rattle.text_pieces.specs.Saying.{SaidAs};
+ghost use Rattle.refusal_text.specs.RefusalText.{refusedSaying};
 ghost use Rattle.list_format.specs.Read.{reading};
 ghost use Rattle.list_bytes.specs.ListBytes.{maxBytes};
 ghost use Rattle.timing.specs.Limits.{maxPairs};
-ghost use Rattle.list_text.specs.ListText.{pairWidth, listWidth, shownPlaces, fourLine, pairLine, textOf, shownDone, shownText};
+ghost use Rattle.list_text.specs.ListText.{pairWidth, listWidth, shownPlaces, fourLine, pairLine, textOf, shownSaid, shownText};
 ghost use Rattle.list_text.specs.ListText.{madeFrom, made, MadeAs};
 ghost use Rattle.buffers.specs.Run.{run};
 ghost use Rattle.words.specs.Bytes.{toBytes};
@@ -20,6 +21,7 @@ use refusal_text::LINE_WIDTH;
 use scan::MAX_NUMBERS;
 use scan::Scanned;
 use text_pieces::NUMBER_WIDTH;
+use text_pieces::Said;
 use text_pieces::put_number;
 use timing::MAX_PAIRS;
 
@@ -77,25 +79,29 @@ fn put_list(text: &mut [u8], n: u32, numbers: &[u32]) -> usize
 }
 
 // The text for a run of words.
-fn put_words(text: &mut [u8], words: &[u32]) -> usize
+fn put_words(text: &mut [u8], words: &[u32]) -> Said
     requires { ⌜ shownPlaces ≤ length (now text) ⌝ }
     ensures { λ r. ⌜
-        Put shownPlaces (told refusalLine shownDone (reading (now (words .entry)) (4 * maxPairs))) (now (text .entry)) 0 (now (text .exit)) r
+        SaidAs shownPlaces (told refusedSaying shownSaid (reading (now (words .entry)) (4 * maxPairs))) (now (text .entry)) (now (text .exit)) r
         ⌝ }
 {
     let mut numbers = [0u32; PAIR_NUMBERS];
     match read_list::read(words, &mut numbers) {
-        Reading::Refused(number, place) => refusal_text::put_refusal(text, number, place),
+        Reading::Refused(number, place) => {
+            let size = refusal_text::put_refusal(text, number, place);
+            Said::Trouble(size)
+        }
         Reading::Read(n, m) => {
             let count = 4 * m as usize;
-            put_list(text, n, &numbers[..count])
+            let size = put_list(text, n, &numbers[..count]);
+            Said::Text(size)
         }
     }
 }
 
-// The text for the bytes of a list, in the first places of `text`; later places keep their contents. The count of its bytes is returned.
-pub fn show(bytes: &[u8], text: &mut [u8; TEXT_PLACES]) -> usize
-    ensures { λ r. ⌜ Put shownPlaces (shownText (now (bytes .entry))) (now (text .entry)) 0 (now (text .exit)) r ⌝ }
+// The text for the bytes of a list, or what is wrong, in the first places of `text`; later places keep their contents.
+pub fn show(bytes: &[u8], text: &mut [u8; TEXT_PLACES]) -> Said
+    ensures { λ r. ⌜ SaidAs shownPlaces (shownText (now (bytes .entry))) (now (text .entry)) (now (text .exit)) r ⌝ }
 {
     let mut words = [0u32; MAX_WORDS];
     let count = list_bytes::load(bytes, &mut words);
