@@ -1,5 +1,6 @@
 -- `put_refusal`: the number and the place of a refusal, and then what it means.
-use Rattle.text_pieces.proofs.PutLaws.{put-then}
+use native.Mathlib.Omega.{arith}
+use Rattle.text_pieces.proofs.PutLaws.{put-then, put-within}
 use Rattle.refusal_text.specs.RefusalText.{refusalLine}
 use borrow.Author.Needs.{needs}
 use Rattle.refusal_text.proofs.put_refusal.Statement.{statement}
@@ -7,7 +8,9 @@ use Rattle.refusal_text.proofs.put_refusal.Tie as tie
 
 returns : tie.Need-returns
 unfolding refusalLine
-returns c = put-then (c .before .before .before .before .before .before .put-refused .ensures) (c .before .before .put-meaning .ensures)
+returns c =
+    let put = put-then (c .before .before .before .before .before .before .put-refused .ensures) (c .before .before .put-meaning .ensures) in
+    put-within put (omega (arith, put .most))
 
 pub put-refusal-spec : {M : Type 1} → statement M
 put-refusal-spec =
