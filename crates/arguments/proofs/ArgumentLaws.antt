@@ -13,7 +13,7 @@ use Rattle.arguments.specs.Arguments.{argumentFrom, argumentOf}
 use Rattle.arguments.specs.declared.Argument.the-variants.{Number, Wrong}
 
 module _ {text was xs : List ℕ} {r : Scanned} (a : ScanAs false text was xs r) where
-  pub argument-faulty : {fault line : ℕ} → r ≡ Faulty fault line → Wrong ≡ argumentOf text
+  pub argument-faulty : {fault line column byte : ℕ} → r ≡ Faulty fault line column byte → Wrong ≡ argumentOf text
   unfolding argumentFrom
   argument-faulty e = rw (← a .answer, e)
 

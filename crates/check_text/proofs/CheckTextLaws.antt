@@ -91,11 +91,11 @@ pair-put rule {ws} {k} {p} {w} {next} {text} {text′} is put h =
 -- ---- the text of the schedule
 
 module _ {ts was now : List ℕ} {r : Scanned} (a : ScanAs false ts was now r) where
-  pub text-faulty : (bs : List ℕ) (t : ℕ) {fault line next : ℕ} {text text′ : List ℕ} → r ≡ Faulty fault line
-      → Put lineWidth (faultLine fault line) text 0 text′ next → Put linePlaces (checkText bs t ts) text 0 text′ next
+  pub text-faulty : (bs : List ℕ) (t : ℕ) {fault line column byte next : ℕ} {text text′ : List ℕ} → r ≡ Faulty fault line column byte
+      → Put lineWidth (faultLine fault line column byte) text 0 text′ next → Put linePlaces (checkText bs t ts) text 0 text′ next
   unfolding scannedLine
-  text-faulty bs t {fault} {line} e put =
-      let here : checkText bs t ts ≡ faultLine fault line = rw (← a .answer, e) in
+  text-faulty bs t {fault} {line} {column} {byte} e put =
+      let here : checkText bs t ts ≡ faultLine fault line column byte = rw (← a .answer, e) in
       rw here put
 
   module _ {count : ℕ} (e : r ≡ Numbers count) where

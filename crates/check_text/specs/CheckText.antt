@@ -54,7 +54,7 @@ checkedLine ws period xs = told refusalLine (λ returned stored. foundLine ws re
 -- from the numbers xs of the text of a schedule: a fault in the text comes first. Faults 3, 4 and 8, of the lines of a list, do not occur:
 -- `no-line-fault` in scan's proofs
 unfoldable pub scannedLine : List ℕ → ℕ → Scanned → List ℕ → List ℕ
-scannedLine ws period (Faulty fault line) xs = faultLine fault line
+scannedLine ws period (Faulty fault line column byte) xs = faultLine fault line column byte
 scannedLine ws period (Numbers count) xs = checkedLine ws period xs
 
 -- the line for the bytes bs of a list, a period, and the text ts of a schedule

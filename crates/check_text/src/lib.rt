@@ -78,7 +78,13 @@ pub fn check_text(bytes: &[u8], period: u32, timings: &[u8], text: &mut [u8; TEX
 {
     let mut numbers = [0u32; MAX_NUMBERS];
     match scan::scan(timings, false, &mut numbers) {
-        Scanned::Faulty(fault, line) => refusal_text::put_fault(text, fault, line),
+        Scanned::Faulty(fault, line, column, byte) => refusal_text::put_fault(
+            text,
+            fault,
+            line,
+            column,
+            byte,
+        ),
         Scanned::Numbers(count) => put_against(text, bytes, period, &numbers[..count]),
     }
 }

@@ -204,11 +204,11 @@ rest-is (x ∷ xs) was h =
     rw e (take-at xs (drop (suc (length xs)) was) (length xs) refl)
 
 module _ {text xs : List ℕ} {r : Scanned} (a : ScanAs true text (zeros maxNumbers) xs r) where
-  pub make-faulty : {fault line next : ℕ} {out out′ : List ℕ} → r ≡ Faulty fault line → Put lineWidth (faultLine fault line) out 0 out′ next
-      → MadeAs (made text) out out′ (Fault next)
+  pub make-faulty : {fault line column byte next : ℕ} {out out′ : List ℕ} → r ≡ Faulty fault line column byte
+      → Put lineWidth (faultLine fault line column byte) out 0 out′ next → MadeAs (made text) out out′ (Fault next)
   unfolding madeOf
-  make-faulty {fault} {line} e put =
-      let here : made text ≡ errorLine (faultLine fault line) = rw (← a .answer, e) in
+  make-faulty {fault} {line} {column} {byte} e put =
+      let here : made text ≡ errorLine (faultLine fault line column byte) = rw (← a .answer, e) in
       rw here (made-fault put)
 
   module _ {count : ℕ} (e : r ≡ Numbers count) where

@@ -40,24 +40,24 @@ short : (k n end : ℕ) → n < 10 ^ suc k → length (number n end) ≤ k + 2
 short k n end h = rw length-append (omega (arith, decimal-few k n h))
 
 -- the line of a pair, after `count` numbers
-four-reads : (line count promised a b c d : ℕ) → 0 < count → count + 4 ≤ maxNumbers
+four-reads : (count promised a b c d : ℕ) → 0 < count → count + 4 ≤ maxNumbers
     → a ≤ maxValue → b ≤ maxValue → c ≤ maxValue → d ≤ maxValue
-    → Reads (at true line count count promised) (fourLine a b c d) (a ∷ b ∷ c ∷ d ∷ []) (at true (line + 1) (count + 4) (count + 4) promised)
-four-reads line count promised a b c d some room ha hb hc hd =
+    → Reads (at true count count promised) (fourLine a b c d) (a ∷ b ∷ c ∷ d ∷ []) (at true (count + 4) (count + 4) promised)
+four-reads count promised a b c d some room ha hb hc hd =
     let four : count + 1 + 1 + 1 + 1 ≡ count + 4 = omega arith in
     let fit : 0 ≡ lineFault true count (count + 1 + 1 + 1 + 1) = pair-line count (count + 1 + 1 + 1 + 1) true refl (λ e. omega arith)
     (λ e. omega arith) four in
     rw four at
-    (reads-then (reads-space true line count count promised a ha (not-second line count count promised a some) (omega arith))
-    (reads-then (reads-space true line count (count + 1) promised b hb (not-second line count (count + 1) promised b some) (omega arith))
-    (reads-then (reads-space true line count (count + 1 + 1) promised c hc (not-second line count (count + 1 + 1) promised c some) (omega arith))
-    (reads-newline true line count (count + 1 + 1 + 1) promised d hd (not-second line count (count + 1 + 1 + 1) promised d some) (omega arith) fit))))
+    (reads-then (reads-space true count count promised a ha (not-second count count promised a some) (omega arith))
+    (reads-then (reads-space true count (count + 1) promised b hb (not-second count (count + 1) promised b some) (omega arith))
+    (reads-then (reads-space true count (count + 1 + 1) promised c hc (not-second count (count + 1 + 1) promised c some) (omega arith))
+    (reads-newline true count (count + 1 + 1 + 1) promised d hd (not-second count (count + 1 + 1 + 1) promised d some) (omega arith) fit))))
 
 -- the end of a text between two lines, after as many numbers as are promised
-end-is : (line count : ℕ) → 0 < count → at true line count count count ≡ finished (at true line count count count)
+end-is : (count : ℕ) → 0 < count → at true count count count ≡ finished (at true count count count)
 unfolding numberEnded
-end-is line count some =
-    let s = at true line count count count in
+end-is count some =
+    let s = at true count count count in
     finish-ends s refl refl refl (end-kept s (λ e. omega arith) (blank-line count count true refl refl) refl (λ e. omega arith) refl)
 
 module _ (ws : List ℕ) (l : ListIn ws) where
@@ -81,18 +81,17 @@ module _ (ws : List ℕ) (l : ListIn ws) where
   text-is = rw (count-is ws, run-same (pairLine (numbersOf ws)) lineAt (pairCount ws) line-is)
 
   lines-read : (promised k : ℕ) → k ≤ pairCount ws
-      → Reads (at true 2 1 1 promised) (run lineAt k) (run fourAt k) (at true (2 + k) (4 * k + 1) (4 * k + 1) promised)
+      → Reads (at true 1 1 promised) (run lineAt k) (run fourAt k) (at true (4 * k + 1) (4 * k + 1) promised)
   unfolding run lineAt fourAt
-  lines-read promised zero h = reads-none (at true 2 1 1 promised)
+  lines-read promised zero h = reads-none (at true 1 1 promised)
   lines-read promised (suc k) h =
       let v = l .values k h in
       let few = l .head .few in
       let most = l .head .most in
       let e : 4 * k + 1 + 4 ≡ 4 * suc k + 1 = omega arith in
-      let e′ : 2 + k + 1 ≡ 2 + suc k = omega arith in
       reads-then (lines-read promised k (omega arith))
-      (rw (e, e′) at
-      (four-reads (2 + k) (4 * k + 1) promised (pairAt ws k .launch) (pairAt ws k .capture) (pairAt ws k .least) (pairAt ws k .greatest)
+      (rw e at
+      (four-reads (4 * k + 1) promised (pairAt ws k .launch) (pairAt ws k .capture) (pairAt ws k .least) (pairAt ws k .greatest)
       (omega arith) (omega arith)
       (omega (arith, v .launch)) (omega (arith, v .capture)) (omega (arith, v .order, v .limit)) (omega (arith, v .limit))))
 
@@ -100,13 +99,13 @@ module _ (ws : List ℕ) (l : ListIn ws) where
   total : ℕ
   total = 4 * pairCount ws + 1
 
-  text-reads : Reads (start true) (textOf (registers ws) (numbersOf ws)) (registers ws ∷ numbersOf ws) (at true (2 + pairCount ws) total total total)
+  text-reads : Reads (start true) (textOf (registers ws) (numbersOf ws)) (registers ws ∷ numbersOf ws) (at true total total total)
   unfolding isSecond fourAt total
   text-reads =
       let m = pairCount ws in
       rw text-is
-      (reads-then (reads-space true 1 0 0 0 (registers ws) (omega (arith, l .head .most)) refl (omega arith))
-      (reads-then (reads-promise 1 m (omega (arith, l .head .few))) (lines-read (4 * m + 1) m (omega arith))))
+      (reads-then (reads-space true 0 0 0 (registers ws) (omega (arith, l .head .most)) refl (omega arith))
+      (reads-then (reads-promise m (omega (arith, l .head .few))) (lines-read (4 * m + 1) m (omega arith))))
 
   -- the text is not too long: a register or a count has at most 4 digits, a delay 7, so a line has at most 24 bytes
   text-short : length (textOf (registers ws) (numbersOf ws)) ≤ textBytes
@@ -145,13 +144,13 @@ module _ (ws : List ℕ) (l : ListIn ws) where
   text : List ℕ
   text = textOf (registers ws) (numbersOf ws)
 
-  after-is : at true (2 + pairCount ws) total total total ≡ after (start true) text
+  after-is : at true total total total ≡ after (start true) text
   unfolding text
   after-is = sym (text-reads .state)
 
-  last-is : at true (2 + pairCount ws) total total total ≡ last true text
+  last-is : at true total total total ≡ last true text
   unfolding total
-  last-is = end-is (2 + pairCount ws) total (omega arith) ∙ ap finished after-is
+  last-is = end-is total (omega arith) ∙ ap finished after-is
 
   -- it has no mark
   whole : markSize text ≡ 0

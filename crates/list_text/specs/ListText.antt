@@ -79,7 +79,7 @@ madeFrom n xs = told madeRefused madeDone (writing n xs maxWords)
 
 -- from the numbers of a text: the count of registers, then four for each pair. (A count of pairs is not among them: Scan.`numberEnded`)
 unfoldable pub madeOf : Scanned → List ℕ → Product
-madeOf (Faulty fault line) xs = errorLine (faultLine fault line)
+madeOf (Faulty fault line column byte) xs = errorLine (faultLine fault line column byte)
 madeOf (Numbers count) xs = madeFrom (getD xs 0 0) (drop 1 xs)
 
 -- what is made of a text

@@ -152,8 +152,8 @@ pub fn make(text: &[u8], out: &mut [u8; MAX_BYTES]) -> Made
 {
     let mut numbers = [0u32; MAX_NUMBERS];
     match scan::scan(text, true, &mut numbers) {
-        Scanned::Faulty(fault, line) => {
-            let size = refusal_text::put_fault(out, fault, line);
+        Scanned::Faulty(fault, line, column, byte) => {
+            let size = refusal_text::put_fault(out, fault, line, column, byte);
             Made::Fault(size)
         }
         Scanned::Numbers(count) => put_made(out, numbers[0], &numbers[1..count]),

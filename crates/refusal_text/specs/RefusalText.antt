@@ -3,12 +3,15 @@ use Prim.Native.Nat.{ℕ, _+_}
 use Prim.Native.String.{String}
 use mathlib.Core.Bool.{cond}
 use mathlib.Core.List.{List, [], _∷_, _++_}
-use lib.Dec.{eqb}
-use Rattle.text_pieces.specs.Pieces.{letters, named, refusedAt, refusedWidth}
+use lib.Dec.{ltb, eqb}
+use Rattle.text_pieces.specs.Pieces.{letters, named, numberWidth, refusedAt}
 use Rattle.text_pieces.specs.Saying.{Saying, trouble as sayTrouble}
 
 abbrev pub colon : ℕ
 colon = 58
+
+abbrev pub comma : ℕ
+comma = 44
 
 -- ---- how long a line can be
 
@@ -16,9 +19,17 @@ colon = 58
 abbrev pub wordsWidth : ℕ
 wordsWidth = 80
 
--- the whole line
+-- " byte " with its number
+abbrev pub byteWidth : ℕ
+byteWidth = 6 + numberWidth
+
+-- "line " and " column " with their numbers, and the byte
+abbrev pub placeWidth : ℕ
+placeWidth = 5 + numberWidth + (8 + numberWidth + byteWidth)
+
+-- the whole line: that of a fault is the longest
 abbrev pub lineWidth : ℕ
-lineWidth = refusedWidth + wordsWidth
+lineWidth = placeWidth + wordsWidth
 
 -- ---- the words
 
@@ -74,5 +85,12 @@ refusalLine number place = causedLine number place number
 abbrev pub refusedSaying : ℕ → ℕ → Saying
 refusedSaying number place = sayTrouble (refusalLine number place)
 
-unfoldable pub faultLine : ℕ → ℕ → List ℕ
-faultLine fault line = named (letters "line ") line colon ++ trouble fault
+-- the byte at fault; 256 is the end of the text
+unfoldable pub byteWords : ℕ → List ℕ
+byteWords byte = cond (ltb byte 256) (named (letters " byte ") byte colon) (letters " end:")
+
+unfoldable pub placeWords : ℕ → ℕ → ℕ → List ℕ
+placeWords line column byte = named (letters "line ") line comma ++ (named (letters " column ") column comma ++ byteWords byte)
+
+unfoldable pub faultLine : ℕ → ℕ → ℕ → ℕ → List ℕ
+faultLine fault line column byte = placeWords line column byte ++ trouble fault

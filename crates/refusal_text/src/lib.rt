@@ -3,8 +3,9 @@
 ghost use Prim.Native.Nat.{_+_, _≤_};
 ghost use lib.ListN.{length};
 ghost use Rattle.text_pieces.specs.Pieces.{Put};
-ghost use Rattle.refusal_text.specs.RefusalText.{wordsWidth, lineWidth, meaning, trouble, causedLine, refusalLine, faultLine};
-use text_pieces::REFUSED_WIDTH;
+ghost use Rattle.refusal_text.specs.RefusalText.{byteWidth, placeWidth, wordsWidth, lineWidth, meaning, trouble, byteWords, placeWords, causedLine};
+ghost use Rattle.refusal_text.specs.RefusalText.{refusalLine, faultLine};
+use text_pieces::NUMBER_WIDTH;
 use text_pieces::put_bytes;
 use text_pieces::put_named;
 use text_pieces::put_refused;
@@ -12,8 +13,14 @@ use text_pieces::put_refused;
 // The most bytes of the words for a refusal or for what is wrong with a text.
 const WORDS_WIDTH: usize = 80;
 
-// The most bytes of a line.
-pub const LINE_WIDTH: usize = REFUSED_WIDTH + WORDS_WIDTH;
+// The most bytes of ` byte ` with its number.
+const BYTE_WIDTH: usize = 6 + NUMBER_WIDTH;
+
+// The most bytes of `line ` and ` column ` with their numbers, and of the byte.
+const PLACE_WIDTH: usize = 5 + NUMBER_WIDTH + (8 + NUMBER_WIDTH + BYTE_WIDTH);
+
+// The most bytes of a line: that of a fault is the longest.
+pub const LINE_WIDTH: usize = PLACE_WIDTH + WORDS_WIDTH;
 
 fn put_meaning(text: &mut [u8], at: usize, number: u32) -> usize
     requires { ⌜ at + wordsWidth ≤ length (now text) ⌝ }
@@ -105,11 +112,32 @@ pub fn put_refusal(text: &mut [u8], number: u32, place: usize) -> usize
     put_caused(text, number, place, number)
 }
 
-// The line for a text that cannot be read.
-pub fn put_fault(text: &mut [u8], fault: u32, line: usize) -> usize
-    requires { ⌜ lineWidth ≤ length (now text) ⌝ }
-    ensures { λ r. ⌜ Put lineWidth (faultLine fault line) (now (text .entry)) 0 (now (text .exit)) r ⌝ }
+// The byte at fault, or the end of the text.
+fn put_byte_name(text: &mut [u8], at: usize, byte: u32) -> usize
+    requires { ⌜ at + byteWidth ≤ length (now text) ⌝ }
+    ensures { λ r. ⌜ Put byteWidth (byteWords byte) (now (text .entry)) at (now (text .exit)) r ⌝ }
 {
-    let a = put_named(text, 0, b"line ", line as u64, b':');
+    if byte < 256 {
+        return put_named(text, at, b" byte ", byte as u64, b':');
+    }
+    put_bytes(text, at, b" end:")
+}
+
+// Where a text is at fault.
+fn put_place(text: &mut [u8], line: usize, column: usize, byte: u32) -> usize
+    requires { ⌜ placeWidth ≤ length (now text) ⌝ }
+    ensures { λ r. ⌜ Put placeWidth (placeWords line column byte) (now (text .entry)) 0 (now (text .exit)) r ⌝ }
+{
+    let a = put_named(text, 0, b"line ", line as u64, b',');
+    let b = put_named(text, a, b" column ", column as u64, b',');
+    put_byte_name(text, b, byte)
+}
+
+// The line for a text that cannot be read.
+pub fn put_fault(text: &mut [u8], fault: u32, line: usize, column: usize, byte: u32) -> usize
+    requires { ⌜ lineWidth ≤ length (now text) ⌝ }
+    ensures { λ r. ⌜ Put lineWidth (faultLine fault line column byte) (now (text .entry)) 0 (now (text .exit)) r ⌝ }
+{
+    let a = put_place(text, line, column, byte);
     put_trouble(text, a, fault)
 }

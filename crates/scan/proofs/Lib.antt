@@ -4,4 +4,5 @@ pub mod StateLaws
 pub mod ScanLaws
 pub mod ReadsLaws
 pub mod UnlinedLaws
+pub mod PlaceLaws
 pub mod StoredLaws

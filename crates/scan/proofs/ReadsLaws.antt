@@ -39,11 +39,10 @@ unfolding after ended
 reads-one {s} {t} {byte} {xs} e k = record { state = e; numbers = rw (e, append-nil) k }
 
 -- between two numbers
-abbrev pub at : Bool → ℕ → ℕ → ℕ → ℕ → State
-at lined line first count promised =
+abbrev pub at : Bool → ℕ → ℕ → ℕ → State
+at lined first count promised =
     record {
       lined = lined;
-      line = line;
       first = first;
       count = count;
       promised = promised;
@@ -54,11 +53,10 @@ at lined line first count promised =
     }
 
 -- in a number
-abbrev pub within : Bool → ℕ → ℕ → ℕ → ℕ → ℕ → State
-within lined line first count promised v =
+abbrev pub within : Bool → ℕ → ℕ → ℕ → ℕ → State
+within lined first count promised v =
     record {
       lined = lined;
-      line = line;
       first = first;
       count = count;
       promised = promised;
@@ -86,12 +84,11 @@ digit-blank d = rw (
   ne-eqb (digit d) 13 (λ z. omega arith),
 )
 
-module _ (lined : Bool) (line first count promised : ℕ) where
+module _ (lined : Bool) (first count promised : ℕ) where
   -- a digit, as the first one or as a later one
   one-digit : (inside : Bool) (v d w : ℕ) → d < 10 → 10 * v + d ≡ w → w ≤ maxValue
       → Reads (record {
         lined = lined;
-        line = line;
         first = first;
         count = count;
         promised = promised;
@@ -99,11 +96,10 @@ module _ (lined : Bool) (line first count promised : ℕ) where
         value = v;
         comment = false;
         fault = 0;
-      }) (digit d ∷ []) [] (within lined line first count promised w)
+      }) (digit d ∷ []) [] (within lined first count promised w)
   one-digit inside v d w h e l =
       let s : State = record {
         lined = lined;
-        line = line;
         first = first;
         count = count;
         promised = promised;
@@ -115,18 +111,18 @@ module _ (lined : Bool) (line first count promised : ℕ) where
       let small : zeroByte + d - zeroByte ≡ d = omega arith in
       let read = in-digit s (digit d) (digit-blank d) (λ z. omega arith) (omega arith) (omega arith) in
       let goes : withDigit s d ≡ step s (digit d) = rw small at read ∙ step-line s (digit d) refl (λ z. omega arith) refl in
-      let there : within lined line first count promised w ≡ withDigit s d = rw e at (digit-more s d (omega arith)) in
-      reads-one (sym (there ∙ goes)) (kept-same s (within lined line first count promised w) refl)
+      let there : within lined first count promised w ≡ withDigit s d = rw e at (digit-more s d (omega arith)) in
+      reads-one (sym (there ∙ goes)) (kept-same s (within lined first count promised w) refl)
 
   -- a number in decimal
-  digits-in : (k n : ℕ) → n < k → n ≤ maxValue → Reads (at lined line first count promised) (decimal n) [] (within lined line first count promised n)
+  digits-in : (k n : ℕ) → n < k → n ≤ maxValue → Reads (at lined first count promised) (decimal n) [] (within lined first count promised n)
   digits-in zero n h l = absurd (omega arith)
   digits-in (suc k) n h l = go (ltb n 10) refl (digits-in k (n / 10))
     where
       go : (b : Bool) → ltb n 10 ≡ b
           → (n / 10 < k → n / 10 ≤ maxValue
-          → Reads (at lined line first count promised) (decimal (n / 10)) [] (within lined line first count promised (n / 10)))
-          → Reads (at lined line first count promised) (decimal n) [] (within lined line first count promised n)
+          → Reads (at lined first count promised) (decimal (n / 10)) [] (within lined first count promised (n / 10)))
+          → Reads (at lined first count promised) (decimal n) [] (within lined first count promised n)
       go true e front =
           let one = ltb-true n 10 e in
           rw (decimal-one n one) (one-digit false 0 n n one (omega arith) l)
@@ -135,47 +131,47 @@ module _ (lined : Bool) (line first count promised : ℕ) where
           rw (decimal-more n more)
           (reads-then (front (omega arith) (omega arith)) (one-digit true (n / 10) (n % 10) n (omega arith) (omega arith) l))
 
-  pub digits : (n : ℕ) → n ≤ maxValue → Reads (at lined line first count promised) (decimal n) [] (within lined line first count promised n)
+  pub digits : (n : ℕ) → n ≤ maxValue → Reads (at lined first count promised) (decimal n) [] (within lined first count promised n)
   digits n l = digits-in (suc n) n (omega arith) l
 
   -- a number and the byte after it, which leads to a state t
-  then-byte : (n byte : ℕ) {t : State} {xs : List ℕ} → n ≤ maxValue → step (within lined line first count promised n) byte ≡ t
-      → kept (within lined line first count promised n) t ≡ xs → Reads (at lined line first count promised) (number n byte) xs t
+  then-byte : (n byte : ℕ) {t : State} {xs : List ℕ} → n ≤ maxValue → step (within lined first count promised n) byte ≡ t
+      → kept (within lined first count promised n) t ≡ xs → Reads (at lined first count promised) (number n byte) xs t
   then-byte n byte l e k = reads-then (digits n l) (reads-one e k)
 
   module _ (n : ℕ) (l : n ≤ maxValue) where
-    module _ (other : isSecond (within lined line first count promised n) ≡ false) (room : count < maxNumbers) where
-      ends : at lined line first (count + 1) promised ≡ numberEnded (within lined line first count promised n)
-      ends = ended-next (within lined line first count promised n) refl other room
+    module _ (other : isSecond (within lined first count promised n) ≡ false) (room : count < maxNumbers) where
+      ends : at lined first (count + 1) promised ≡ numberEnded (within lined first count promised n)
+      ends = ended-next (within lined first count promised n) refl other room
 
       -- a number and a space
-      pub reads-space : Reads (at lined line first count promised) (number n space) (n ∷ []) (at lined line first (count + 1) promised)
+      pub reads-space : Reads (at lined first count promised) (number n space) (n ∷ []) (at lined first (count + 1) promised)
       unfolding isBlank
       reads-space =
-          let s = within lined line first count promised n in
-          let t = at lined line first (count + 1) promised in
+          let s = within lined first count promised n in
+          let t = at lined first (count + 1) promised in
           then-byte n space l (sym (ends ∙ in-blank s space refl ∙ step-line s space refl (λ z. omega arith) refl)) (kept-next s t (omega arith))
 
       -- a number and the end of a line
       pub reads-newline : 0 ≡ lineFault lined first (count + 1)
-          → Reads (at lined line first count promised) (number n newline) (n ∷ []) (at lined (line + 1) (count + 1) (count + 1) promised)
+          → Reads (at lined first count promised) (number n newline) (n ∷ []) (at lined (count + 1) (count + 1) promised)
       reads-newline fit =
-          let s = within lined line first count promised n in
-          let t = at lined (line + 1) (count + 1) (count + 1) promised in
+          let s = within lined first count promised n in
+          let t = at lined (count + 1) (count + 1) promised in
           let ended : t ≡ lineEnded (numberEnded s) =
-          line-next (at lined line first (count + 1) promised) refl fit refl ∙ ap lineEnded ends in
+          line-next (at lined first (count + 1) promised) refl fit refl ∙ ap lineEnded ends in
           then-byte n newline l (sym (ended ∙ step-newline s newline refl refl)) (kept-next s t (omega arith))
 
 -- after the first line of a list no number is the count of pairs
-pub not-second : (line first count promised n : ℕ) → 0 < first → isSecond (within true line first count promised n) ≡ false
+pub not-second : (first count promised n : ℕ) → 0 < first → isSecond (within true first count promised n) ≡ false
 unfolding isSecond
-not-second line first count promised n h = rw (ne-eqb first 0 (λ z. omega arith))
+not-second first count promised n h = rw (ne-eqb first 0 (λ z. omega arith))
 
 -- the count of pairs, at the end of a list's first line
-pub reads-promise : (line n : ℕ) → n ≤ maxValue → Reads (at true line 0 1 0) (number n newline) [] (at true (line + 1) 1 1 (4 * n + 1))
+pub reads-promise : (n : ℕ) → n ≤ maxValue → Reads (at true 0 1 0) (number n newline) [] (at true 1 1 (4 * n + 1))
 unfolding isSecond lineFault
-reads-promise line n l =
-    let s = within true line 0 1 0 n in
-    let t = at true (line + 1) 1 1 (4 * n + 1) in
-    let ended : t ≡ lineEnded (numberEnded s) = line-next (at true line 0 1 (4 * n + 1)) refl refl refl ∙ ap lineEnded (ended-second s refl refl) in
-    then-byte true line 0 1 0 n newline l (sym (ended ∙ step-newline s newline refl refl)) (kept-same s t refl)
+reads-promise n l =
+    let s = within true 0 1 0 n in
+    let t = at true 1 1 (4 * n + 1) in
+    let ended : t ≡ lineEnded (numberEnded s) = line-next (at true 0 1 (4 * n + 1)) refl refl refl ∙ ap lineEnded (ended-second s refl refl) in
+    then-byte true 0 1 0 n newline l (sym (ended ∙ step-newline s newline refl refl)) (kept-same s t refl)

@@ -16,7 +16,7 @@ use Rattle.scan.specs.declared.State.{State}
 use Rattle.scan.specs.declared.Scanned.{Scanned}
 use Rattle.scan.specs.declared.Scanned.the-variants.{Numbers, Faulty}
 use Rattle.scan.specs.Scan.{maxNumbers, textBytes, isBlank, start, failed, numberEnded, stepInLine, step, endFault, atEnd, finished}
-use Rattle.scan.specs.Scan.{kept, keptIn, after, ended, last, scannedNumbers, resultOf, markSize, withoutMark, scanned, storedOf}
+use Rattle.scan.specs.Scan.{kept, keptIn, after, ended, last, scannedNumbers, faultIndex, faultyAt, resultOf, markSize, withoutMark, scanned, storedOf}
 use Rattle.scan.specs.Scan.{Counted, TextAs, ScanAs, StateIn, ScannedTo}
 use Rattle.scan.proofs.CaseLaws.{end-none, step-stays}
 use Rattle.scan.proofs.StateLaws.{Moves, Fair, fair-in, step-moves, finish-moves}
@@ -44,7 +44,7 @@ ended-one s xs x = rw (ended-append s xs (x ∷ []), append-nil)
 
 -- ---- the number that ends on the way
 
-module _ {l : ℕ} {s t : State} (m : Moves l 1 s t) where
+module _ {s t : State} (m : Moves 1 s t) where
   pub kept-size : t .count ≡ s .count + length (kept s t)
   unfolding kept
   kept-size = go (ltb (s .count) (t .count)) refl
@@ -72,7 +72,6 @@ module _ {l : ℕ} {s t : State} (m : Moves l 1 s t) where
 pub record Scanning (lined : Bool) (bs was now : List ℕ) (s : State) (i : ℕ) : Type 0 where
   pub bound : i ≤ length bs
   pub state : s ≡ after (start lined) (take i bs)
-  pub line : s .line ≤ i + 1
   pub fair : Fair s
   pub size : s .count ≡ length (ended (start lined) (take i bs))
   pub places : Filled (ended (start lined) (take i bs)) was now
@@ -84,16 +83,14 @@ module _ {lined : Bool} {bs was : List ℕ} where
       record {
         bound = omega arith;
         state = e;
-        line = rw e (omega arith);
         fair = rw e (record { first = omega arith; most = omega arith });
         size = rw e;
         places = filled-none was;
       }
 
   module _ {now : List ℕ} {s : State} {i : ℕ} (w : Scanning lined bs was now s i) where
-    -- the state is one from which a byte of a text that is not too long can be read
-    pub scanning-in : length bs ≤ textBytes → StateIn s
-    scanning-in h = record { line = omega (arith, w .line, w .bound); first = w .fair .first; count = w .fair .most }
+    pub scanning-in : StateIn s
+    scanning-in = record { first = w .fair .first; count = w .fair .most }
 
     pub scanning-size : length now ≡ length was
     scanning-size = filled-size (w .places)
@@ -102,26 +99,25 @@ module _ {lined : Bool} {bs was : List ℕ} where
         → t ≡ step s (getD bs i 0) → now′ ≡ keptIn s t now → Scanning lined bs was now′ t (i + 1)
     scanning-turn {t} {now′} room b e e′ =
         let byte : ℕ = getD bs i 0 in
-        let m : Moves 1 1 s t = rw e (step-moves s (w .fair) byte) in
+        let m : Moves 1 s t = rw e (step-moves s (w .fair) byte) in
         let one : take (i + 1) bs ≡ take i bs ++ (byte ∷ []) = rw (add-one i, take-suc bs i 0 b) in
         let more = ended-one (start lined) (take i bs) byte in
         let there : ended (start lined) (take (i + 1) bs) ≡ ended (start lined) (take i bs) ++ kept s t = rw (one, more, ← w .state, e) in
         record {
           bound = omega arith;
           state = rw (one, after-one (start lined) (take i bs) byte, ← w .state) e;
-          line = omega (arith, m .line, w .line);
           fair = record { first = m .first; most = m .most };
           size = rw (there, length-append) (omega (arith, kept-size m, w .size));
           places = rw (there, e′) (kept-filled m room (w .size) (w .places));
         }
 
-    pub scanning-end : length bs ≤ textBytes → length bs ≤ i → ScannedTo lined bs was now s
-    scanning-end h l =
+    pub scanning-end : length bs ≤ i → ScannedTo lined bs was now s
+    scanning-end l =
         let e : i ≡ length bs = omega (arith, w .bound) in
         let all : take i bs ≡ bs = rw (e, take-length bs) in
         record {
           state = rw all at (w .state);
-          within = scanning-in h;
+          within = scanning-in;
           size = rw all at (w .size);
           places = rw all at (w .places .is);
         }
@@ -149,7 +145,7 @@ finish-some s = go (eqb (s .fault) 0) refl
 
 module _ {lined : Bool} {ts was : List ℕ} {mid now : List ℕ} {s t : State} (room : maxNumbers ≤ length was)
     (w : ScannedTo lined ts was mid s) (e : t ≡ finished s) (e′ : now ≡ keptIn s t mid) where
-  moved : Moves 1 1 s t
+  moved : Moves 1 s t
   moved = rw e (finish-moves s (fair-in (w .within)))
 
   here : t ≡ last lined ts
@@ -169,10 +165,10 @@ module _ {lined : Bool} {ts was : List ℕ} {mid now : List ℕ} {s t : State} (
   stored : now ≡ over (scannedNumbers lined ts) was
   stored = rw all (filled .is)
 
-  pub text-faulty : (t .fault ≡ 0 → ⊥) → TextAs lined ts was now (Faulty (t .fault) (t .line))
-  text-faulty wrong =
+  pub text-faulty : {r : Scanned} {i : ℕ} → (t .fault ≡ 0 → ⊥) → i ≡ faultIndex lined ts → r ≡ faultyAt (t .fault) ts i → TextAs lined ts was now r
+  text-faulty wrong at a =
       record {
-        answer = rw (← here, ne-eqb (t .fault) 0 wrong);
+        answer = rw (← here, ne-eqb (t .fault) 0 wrong, ← at) a;
         stored = stored;
         counted = λ count told. (let z : _≡_ {A = ℕ} 0 1 = cc in absurd (omega arith));
       }
@@ -250,12 +246,12 @@ pub lent-short : (bs : List ℕ) (from : ℕ) → length bs ≤ textBytes → le
 lent-short bs from h = rw (lent-is bs from, length-drop) (omega arith)
 
 module _ {lined : Bool} {bs was : List ℕ} where
-  pub scan-long : textBytes < length bs → ScanAs lined bs was was (Faulty 7 1)
+  pub scan-long : {r : Scanned} → textBytes < length bs → r ≡ faultyAt 7 bs textBytes → ScanAs lined bs was was r
   unfolding scanned storedOf
-  scan-long h =
+  scan-long h a =
       let long = lt-ltb textBytes (length bs) h in
       record {
-        answer = rw long;
+        answer = rw long a;
         stored = rw long;
         counted = λ count e. (let z : _≡_ {A = ℕ} 0 1 = cc in absurd (omega arith));
       }

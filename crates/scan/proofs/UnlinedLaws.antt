@@ -11,7 +11,7 @@ use Rattle.scan.specs.declared.State.{State}
 use Rattle.scan.specs.declared.Scanned.{Scanned}
 use Rattle.scan.specs.declared.Scanned.the-variants.{Numbers, Faulty}
 use Rattle.scan.specs.Scan.{maxNumbers, maxValue, textBytes, isBlank, commentByte, start, failed, withDigit, isSecond, numberEnded, lineFault}
-use Rattle.scan.specs.Scan.{lineEnded, commented, stepInLine, step, endFault, atEnd, finished, after, last, withoutMark, scanned}
+use Rattle.scan.specs.Scan.{lineEnded, commented, stepInLine, step, endFault, atEnd, finished, after, last, faultIndex, faultyAt, withoutMark, scanned}
 
 -- not 3, 4 or 8
 pub record NoLine (fault : ℕ) : Type 0 where
@@ -109,20 +109,21 @@ last-unlined bs = finish-unlined (after (start false) bs) (after-unlined (start 
 -- the fault of a text that is faulty
 faultOf : Scanned → ℕ
 faultOf (Numbers count) = 0
-faultOf (Faulty fault line) = fault
+faultOf (Faulty fault line column byte) = fault
 
 scanned-unlined : (bs : List ℕ) → NoLine (faultOf (scanned false bs))
 unfolding scanned faultOf
-scanned-unlined bs = go (ltb textBytes (length bs)) (eqb (t .fault) 0)
+scanned-unlined bs = go (ltb textBytes (length bs)) (eqb (last false ts .fault) 0)
   where
-    t : State
-    t = last false (withoutMark bs)
+    ts : List ℕ
+    ts = withoutMark bs
 
-    go : (b b′ : Bool) → NoLine (faultOf (cond b (Faulty 7 1) (cond b′ (Numbers (t .count)) (Faulty (t .fault) (t .line)))))
+    go : (b b′ : Bool) → NoLine (faultOf (cond b (faultyAt 7 bs textBytes)
+        (cond b′ (Numbers (last false ts .count)) (faultyAt (last false ts .fault) ts (faultIndex false ts)))))
     go true b′ = no-line 7 refl refl refl
     go false true = none
-    go false false = last-unlined (withoutMark bs) .fault
+    go false false = last-unlined ts .fault
 
-pub no-line-fault : (bs : List ℕ) {fault line : ℕ} → scanned false bs ≡ Faulty fault line → NoLine fault
+pub no-line-fault : (bs : List ℕ) {fault line column byte : ℕ} → scanned false bs ≡ Faulty fault line column byte → NoLine fault
 unfolding faultOf
 no-line-fault bs e = rw e at (scanned-unlined bs)

@@ -2,16 +2,17 @@
 -- line is a comment; a byte order mark at the start is skipped; the last newline may be missing.
 -- In the lines of a delay list the first line with a number has one, the count of registers, or two, that and the count of pairs; each
 -- later one has four, those of a pair. Lines without a number are skipped.
-use Prim.Native.Nat.{ℕ, _+_, _-_, _*_, _^_, _≤_, _<_}
+use Prim.Native.Nat.{ℕ, suc, _+_, _-_, _*_, _^_, _≤_, _<_}
 use mathlib.Core.Bool.{Bool, false, true, cond, _&&_, _||_}
 use mathlib.Core.List.{List, [], _∷_, _++_}
 use mathlib.Core.Path.{_≡_}
-use lib.Dec.{ltb, eqb}
-use lib.ListN.{length, set, getD, drop}
+use lib.Dec.{ltb, leb, eqb}
+use lib.ListN.{length, set, getD, take, drop}
 use Rattle.timing.specs.Limits.{maxPairs}
 use Rattle.buffers.specs.Over.{over}
 use Rattle.text_pieces.specs.Pieces.{zeroByte, nineByte, space, newline}
 use Rattle.scan.specs.declared.State.{State}
+use Rattle.scan.specs.declared.Place.{Place}
 use Rattle.scan.specs.declared.Scanned.{Scanned}
 use Rattle.scan.specs.declared.Scanned.the-variants.{Numbers, Faulty}
 
@@ -38,14 +39,13 @@ abbrev pub commentByte : ℕ
 commentByte = 35
 
 abbrev pub start : Bool → State
-start lined = record { lined = lined; line = 1; first = 0; count = 0; promised = 0; inside = false; value = 0; comment = false; fault = 0 }
+start lined = record { lined = lined; first = 0; count = 0; promised = 0; inside = false; value = 0; comment = false; fault = 0 }
 
 -- something is wrong; nothing that follows changes that
 abbrev pub failed : State → ℕ → State
 failed s fault =
     record {
       lined = s .lined;
-      line = s .line;
       first = s .first;
       count = s .count;
       promised = s .promised;
@@ -60,7 +60,6 @@ abbrev pub valued : State → ℕ → State
 valued s value =
     record {
       lined = s .lined;
-      line = s .line;
       first = s .first;
       count = s .count;
       promised = s .promised;
@@ -83,7 +82,6 @@ abbrev pub outside : State → ℕ → ℕ → State
 outside s count promised =
     record {
       lined = s .lined;
-      line = s .line;
       first = s .first;
       count = count;
       promised = promised;
@@ -112,7 +110,6 @@ abbrev pub nextLine : State → State
 nextLine s =
     record {
       lined = s .lined;
-      line = s .line + 1;
       first = s .count;
       count = s .count;
       promised = s .promised;
@@ -133,7 +130,6 @@ abbrev pub commented : State → State
 commented s =
     record {
       lined = s .lined;
-      line = s .line;
       first = s .first;
       count = s .count;
       promised = s .promised;
@@ -199,9 +195,48 @@ last lined ts = finished (after (start lined) ts)
 abbrev pub scannedNumbers : Bool → List ℕ → List ℕ
 scannedNumbers lined ts = ended (start lined) ts ++ kept (after (start lined) ts) (last lined ts)
 
--- the count of the numbers, or what is wrong and the line
-abbrev pub resultOf : State → Scanned
-resultOf s = cond (eqb (s .fault) 0) (Numbers (s .count)) (Faulty (s .fault) (s .line))
+-- ---- where a byte stands
+
+-- line and column count from 1; a newline is the last byte of its line
+abbrev pub firstPlace : Place
+firstPlace = record { line = 1; column = 1 }
+
+unfoldable pub nextPlace : Place → ℕ → Place
+nextPlace p byte = cond (eqb byte newline) (record { line = p .line + 1; column = 1 }) (record { line = p .line; column = p .column + 1 })
+
+-- the place after a run of bytes
+unfoldable pub placeAfter : Place → List ℕ → Place
+placeAfter p [] = p
+placeAfter p (b ∷ bs) = placeAfter (nextPlace p b) bs
+
+-- the place of byte i
+abbrev pub placeOf : List ℕ → ℕ → Place
+placeOf ts i = placeAfter firstPlace (take i ts)
+
+-- whether something is wrong, or `enough` numbers have ended
+unfoldable pub stops : ℕ → State → Bool
+stops enough s = cond (eqb (s .fault) 0) (leb enough (s .count)) true
+
+-- how many bytes are read before one with which the reading stops; all, if there is none
+unfoldable pub goesTo : ℕ → State → List ℕ → ℕ
+goesTo enough s [] = 0
+goesTo enough s (b ∷ bs) =
+    let t : State = step s b in
+    cond (stops enough t) 0 (suc (goesTo enough t bs))
+
+-- the index of the byte at fault, that of the end of the text being its length: no text has more than maxNumbers numbers
+abbrev pub faultIndex : Bool → List ℕ → ℕ
+faultIndex lined ts = goesTo (maxNumbers + 1) (start lined) ts
+
+-- ---- the whole text
+
+-- the byte that stands there: 256 for the end of the text
+abbrev pub faultyAt : ℕ → List ℕ → ℕ → Scanned
+faultyAt fault ts i = Faulty fault (placeOf ts i .line) (placeOf ts i .column) (getD ts i 256)
+
+-- the count of the numbers, or what is wrong and where
+abbrev pub resultOf : Bool → List ℕ → Scanned
+resultOf lined ts = cond (eqb (last lined ts .fault) 0) (Numbers (last lined ts .count)) (faultyAt (last lined ts .fault) ts (faultIndex lined ts))
 
 -- the bytes of a byte order mark at the start
 unfoldable pub markSize : List ℕ → ℕ
@@ -211,9 +246,9 @@ markSize bs = cond (eqb (getD bs 0 0) 239 && (eqb (getD bs 1 0) 187 && eqb (getD
 abbrev pub withoutMark : List ℕ → List ℕ
 withoutMark bs = drop (markSize bs) bs
 
--- 7: a text that is too long, the mark counted
+-- 7: a text that is too long, the mark counted: the first byte too many is at fault
 unfoldable pub scanned : Bool → List ℕ → Scanned
-scanned lined bs = cond (ltb textBytes (length bs)) (Faulty 7 1) (resultOf (last lined (withoutMark bs)))
+scanned lined bs = cond (ltb textBytes (length bs)) (faultyAt 7 bs textBytes) (resultOf lined (withoutMark bs))
 
 -- the numbers that are stored: none of a text that is too long
 unfoldable pub storedOf : Bool → List ℕ → List ℕ
@@ -227,7 +262,7 @@ pub record Counted (xs : List ℕ) (count : ℕ) : Type 0 where
 
 -- a text ts after its mark was read, into places that held `was` and hold `now`
 pub record TextAs (lined : Bool) (ts was now : List ℕ) (r : Scanned) : Type 0 where
-  pub answer : r ≡ resultOf (last lined ts)
+  pub answer : r ≡ resultOf lined ts
   pub stored : now ≡ over (scannedNumbers lined ts) was
   pub counted : (count : ℕ) → r ≡ Numbers count → Counted (scannedNumbers lined ts) count
 
@@ -239,9 +274,8 @@ pub record ScanAs (lined : Bool) (bs was now : List ℕ) (r : Scanned) : Type 0 
 
 -- ---- what holds on the way
 
--- a state that a text which is not too long can lead to
+-- a state that a text can lead to
 pub record StateIn (s : State) : Type 0 where
-  pub line : s .line ≤ textBytes + 1
   pub first : s .first ≤ s .count
   pub count : s .count ≤ maxNumbers
 
@@ -251,3 +285,13 @@ pub record ScannedTo (lined : Bool) (bs was now : List ℕ) (s : State) : Type 0
   pub within : StateIn s
   pub size : s .count ≡ length (ended (start lined) bs)
   pub places : now ≡ over (ended (start lined) bs) was
+
+-- a place in a text that is not too long
+pub record PlaceIn (p : Place) : Type 0 where
+  pub line : p .line ≤ textBytes
+  pub column : p .column ≤ textBytes
+
+-- reading stops before the end of the text, or at it
+pub record GoesTo (enough : ℕ) (lined : Bool) (ts : List ℕ) (i : ℕ) : Type 0 where
+  pub index : i ≡ goesTo enough (start lined) ts
+  pub bound : i ≤ length ts

@@ -2,9 +2,10 @@
 // The contracts cite `specs/Scan.antt`.
 ghost use mathlib.Core.Path.{_≡_};
 ghost use Prim.Native.Nat.{_+_, _≤_, _<_};
-ghost use lib.ListN.{length};
+ghost use lib.ListN.{length, getD};
 ghost use Rattle.scan.specs.Scan.{textBytes, maxNumbers, isBlank, start, failed, withDigit, isSecond, numberEnded, lineFault, lineEnded};
-ghost use Rattle.scan.specs.Scan.{stepInLine, step, endFault, finished, keptIn, markSize, StateIn, ScannedTo, TextAs, ScanAs};
+ghost use Rattle.scan.specs.Scan.{stepInLine, step, endFault, finished, keptIn, nextPlace, placeOf, stops};
+ghost use Rattle.scan.specs.Scan.{faultyAt, markSize, StateIn, PlaceIn, ScannedTo, GoesTo, TextAs, ScanAs};
 use timing::MAX_PAIRS;
 
 // The most numbers that a text may hold: the count of registers, and four for each pair.
@@ -20,9 +21,7 @@ pub const TEXT_BYTES: usize = 131_072;
 pub struct State {
     // whether the lines are those of a delay list
     pub lined: bool,
-    // the line, counted from 1
-    pub line: usize,
-    // the numbers that stand in the lines before it
+    // the numbers that stand in the lines before this one
     pub first: usize,
     // the numbers that have ended
     pub count: usize,
@@ -37,10 +36,19 @@ pub struct State {
     pub fault: u32,
 }
 
-// What reading a text comes to: the count of its numbers, or what is wrong and the line.
+// Where a byte stands in a text, line and column counted from 1.
+pub struct Place {
+    pub line: usize,
+    pub column: usize,
+}
+
+// The byte that is named where a text is at fault at its end.
+pub const END: u32 = 256;
+
+// What reading a text comes to: the count of its numbers; or what is wrong, the line, the column and the byte there.
 pub enum Scanned {
     Numbers(usize),
-    Faulty(u32, usize),
+    Faulty(u32, usize, usize, u32),
 }
 
 fn begin(lined: bool) -> State
@@ -48,7 +56,6 @@ fn begin(lined: bool) -> State
 {
     State {
         lined,
-        line: 1,
         first: 0,
         count: 0,
         promised: 0,
@@ -151,7 +158,6 @@ impl State {
             return self.fail(fault);
         }
         let mut next = self;
-        next.line = self.line + 1;
         next.first = self.count;
         next.comment = false;
         next.fault = 0;
@@ -291,7 +297,7 @@ fn turn_end(state: State, numbers: &mut [u32]) -> State
 
 // All bytes of a text, with the numbers that they end in the first places of `numbers`.
 fn read_bytes(bytes: &[u8], lined: bool, numbers: &mut [u32]) -> State
-    requires { ⌜ (length (now bytes) ≤ textBytes) × (maxNumbers ≤ length (now numbers)) ⌝ }
+    requires { ⌜ maxNumbers ≤ length (now numbers) ⌝ }
     ensures { λ r. ⌜ ScannedTo lined (now (bytes .entry)) (now (numbers .entry)) (now (numbers .exit)) r ⌝ }
 {
     let mut state = begin(lined);
@@ -303,6 +309,89 @@ fn read_bytes(bytes: &[u8], lined: bool, numbers: &mut [u32]) -> State
     state
 }
 
+// The place after a byte.
+fn next_place(place: Place, byte: u8) -> Place
+    requires { ⌜ PlaceIn place ⌝ }
+    ensures { λ r. ⌜ r ≡ nextPlace place byte ⌝ }
+{
+    if byte == b'\n' {
+        return Place {
+            line: place.line + 1,
+            column: 1,
+        };
+    }
+    Place {
+        line: place.line,
+        column: place.column + 1,
+    }
+}
+
+// The place of byte `at`.
+fn place_of(text: &[u8], at: usize) -> Place
+    requires { ⌜ (at ≤ length (now text)) × (at ≤ textBytes) ⌝ }
+    ensures { λ r. ⌜ r ≡ placeOf (now (text .entry)) at ⌝ }
+{
+    let mut place = Place { line: 1, column: 1 };
+    let mut i = 0;
+    while i < at {
+        place = next_place(place, text[i]);
+        i += 1;
+    }
+    place
+}
+
+// Whether reading stops: something is wrong, or enough numbers have ended.
+fn stops(enough: usize, state: State) -> bool
+    ensures { λ r. ⌜ r ≡ stops enough state ⌝ }
+{
+    if state.fault != 0 {
+        return true;
+    }
+    state.count >= enough
+}
+
+// The index of the byte with which reading stops.
+fn goes_to(text: &[u8], lined: bool, enough: usize) -> usize
+    ensures { λ r. ⌜ GoesTo enough lined (now (text .entry)) r ⌝ }
+{
+    let mut state = begin(lined);
+    let mut i = 0;
+    while i < text.len() {
+        state = state.step(text[i]);
+        if stops(enough, state) {
+            return i;
+        }
+        i += 1;
+    }
+    i
+}
+
+fn wide(byte: u8) -> u32
+    ensures { λ r. ⌜ r ≡ byte ⌝ }
+{
+    byte as u32
+}
+
+// Byte `at`, or what is named at the end.
+fn byte_at(text: &[u8], at: usize) -> u32
+    ensures { λ r. ⌜ r ≡ getD (now (text .entry)) at 256 ⌝ }
+{
+    if at < text.len() {
+        return wide(text[at]);
+    }
+    END
+}
+
+// What is wrong, and where: at byte `at`, or at the end.
+fn faulty(text: &[u8], fault: u32, at: usize) -> Scanned
+    requires { ⌜ (at ≤ length (now text)) × (at ≤ textBytes) ⌝ }
+    ensures { λ r. ⌜ r ≡ faultyAt fault (now (text .entry)) at ⌝ }
+{
+    let place = place_of(text, at);
+    let byte = byte_at(text, at);
+    Scanned::Faulty(fault, place.line, place.column, byte)
+}
+
 // The numbers of a text that is not too long and has no mark, or none any more.
 fn scan_text(text: &[u8], lined: bool, numbers: &mut [u32]) -> Scanned
     requires { ⌜ (length (now text) ≤ textBytes) × (maxNumbers ≤ length (now numbers)) ⌝ }
@@ -311,7 +400,8 @@ fn scan_text(text: &[u8], lined: bool, numbers: &mut [u32]) -> Scanned
     let walked = read_bytes(text, lined, numbers);
     let last = turn_end(walked, numbers);
     if last.fault != 0 {
-        return Scanned::Faulty(last.fault, last.line);
+        let at = goes_to(text, lined, MAX_NUMBERS + 1);
+        return faulty(text, last.fault, at);
     }
     Scanned::Numbers(last.count)
 }
@@ -336,12 +426,13 @@ fn mark_size(bytes: &[u8]) -> usize
 }
 
 // The numbers of a text, in the first places of `numbers`; later places keep their contents. Their count is returned.
-// Of a faulty text the numbers before the fault are stored, and what is wrong and the line are returned; 7: a text that is too long.
+// Of a faulty text the numbers before the fault are stored, and what is wrong and where is returned; 7: a text that is too long, with the
+// first byte too many.
 pub fn scan(bytes: &[u8], lined: bool, numbers: &mut [u32; MAX_NUMBERS]) -> Scanned
     ensures { λ r. ⌜ ScanAs lined (now (bytes .entry)) (now (numbers .entry)) (now (numbers .exit)) r ⌝ }
 {
     if bytes.len() > TEXT_BYTES {
-        return Scanned::Faulty(7, 1);
+        return faulty(bytes, 7, TEXT_BYTES);
     }
     let from = mark_size(bytes);
     scan_text(&bytes[from..], lined, numbers)

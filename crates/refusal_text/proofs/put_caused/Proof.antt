@@ -1,5 +1,6 @@
 -- `put_caused`: the number and the place of a refusal, and then the words for its cause.
-use Rattle.text_pieces.proofs.PutLaws.{put-then}
+use native.Mathlib.Omega.{arith}
+use Rattle.text_pieces.proofs.PutLaws.{put-then, put-within}
 use Rattle.refusal_text.specs.RefusalText.{causedLine}
 use borrow.Author.Needs.{needs}
 use Rattle.refusal_text.proofs.put_caused.Statement.{statement}
@@ -7,7 +8,9 @@ use Rattle.refusal_text.proofs.put_caused.Tie as tie
 
 returns : tie.Need-returns
 unfolding causedLine
-returns c = put-then (c .before .before .before .before .before .before .put-refused .ensures) (c .before .before .put-meaning .ensures)
+returns c =
+    let put = put-then (c .before .before .before .before .before .before .put-refused .ensures) (c .before .before .put-meaning .ensures) in
+    put-within put (omega (arith, put .most))
 
 pub put-caused-spec : {M : Type 1} → statement M
 put-caused-spec =

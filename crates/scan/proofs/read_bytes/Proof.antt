@@ -20,7 +20,7 @@ loop-holds c = scanning-start (c .begin .ensures)
 turn-requires : tie.Need-turn-requires Inv-loop μ-loop
 turn-requires c κs =
     let w = c .before .before .before .loop .inv in
-    (scanning-in w (omega arith), omega (arith, scanning-size w))
+    (scanning-in w, omega (arith, scanning-size w))
 
 loop-again : tie.Need-loop-again Inv-loop μ-loop
 loop-again c =
@@ -31,7 +31,7 @@ same-length : tie.Need-same-length Inv-loop μ-loop
 same-length c = scanning-size (c .before .loop .inv)
 
 returns : tie.Need-returns Inv-loop μ-loop
-returns c = scanning-end (c .before .loop .inv) (omega arith) (omega arith)
+returns c = scanning-end (c .before .loop .inv) (omega arith)
 
 pub read-bytes-spec : {M : Type 1} → statement M
 read-bytes-spec =

@@ -6,7 +6,7 @@ use Rattle.scan.proofs.scan.Statement.{statement}
 use Rattle.scan.proofs.scan.Tie as tie
 
 returns : tie.Need-returns
-returns c = scan-long (c .if1 .taken)
+returns c = scan-long (c .before .if1 .taken) (c .faulty .ensures)
 
 sub-scan-text : tie.Need-sub-scan-text
 sub-scan-text c = rw (c .mark-size .ensures) (mark-fits _)
@@ -27,4 +27,4 @@ returns-2 c =
 pub scan-spec : {M : Type 1} → statement M
 scan-spec =
     tie.close
-    (tie.spec returns (λ c κs. search needs) sub-scan-text part-scan-text-start (λ c. search needs) scan-text-requires returns-2)
+    (tie.spec (λ c κs. search needs) returns (λ c κs. search needs) sub-scan-text part-scan-text-start (λ c. search needs) scan-text-requires returns-2)
