@@ -1,19 +1,25 @@
 // The line for a schedule that is checked against a delay list: the list as bytes, the schedule as text.
 // The contracts cite `specs/CheckText.antt`.
+ghost use mathlib.Core.Path.{_≡_};
 ghost use Prim.Native.Nat.{_+_, _≤_};
 ghost use lib.ListN.{length};
 ghost use Rattle.text_pieces.specs.Pieces.{Put};
-ghost use Rattle.list_format.specs.Lists.{PairIn};
+ghost use Rattle.text_pieces.specs.Saying.{SaidAs};
+ghost use Rattle.refusal_text.specs.RefusalText.{lineWidth, causedLine};
+ghost use Rattle.list_format.specs.Lists.{registers, PairIn};
 ghost use Rattle.list_bytes.specs.ListBytes.{listOf};
 ghost use Rattle.checker.specs.Check.{ruleNumber};
-ghost use Rattle.check_text.specs.CheckText.{ruleWidth, registersWidth, linePlaces, ruleWords, registersWords, brokenLine, checkedLine, checkText};
+ghost use Rattle.check_text.specs.CheckText.{ruleWidth, registersWidth, linePlaces, ruleWords, registersWords, brokenLine, checkCause};
+ghost use Rattle.check_text.specs.CheckText.{checkedLine, checkText};
 use checker::Checking;
 use checker::Rule;
 use list_bytes::MAX_WORDS;
 use scan::MAX_NUMBERS;
 use scan::Scanned;
+use text_pieces::Said;
 use text_pieces::put_bytes;
 use text_pieces::put_named;
+use timing::MAX_PERIOD;
 
 // Places enough for any line: that of a refusal is the longest.
 pub const TEXT_PLACES: usize = refusal_text::LINE_WIDTH;
@@ -48,23 +54,76 @@ fn put_broken(text: &mut [u8], words: &[u32], k: usize, rule: Rule) -> usize
     put_registers(text, b, p.launch, p.capture)
 }
 
-// The check of a schedule against a run of words.
-fn put_checked(text: &mut [u8], words: &[u32], period: u32, timings: &[u32]) -> usize
+// The count of registers of a run of words.
+fn registers_of(words: &[u32]) -> usize
+    ensures { λ r. ⌜ r ≡ registers (now (words .entry)) ⌝ }
+{
+    if words.len() == 0 {
+        return 0;
+    }
+    words::head_registers(words[0]) as usize
+}
+
+// What a refusal is caused by.
+fn check_cause(words: &[u32], period: u32, count: usize, number: u32) -> u32
+    ensures { λ r. ⌜ r ≡ checkCause (now (words .entry)) period count number ⌝ }
+{
+    if number != 3 {
+        return number;
+    }
+    if period == 0 {
+        return 31;
+    }
+    if period > MAX_PERIOD {
+        return 31;
+    }
+    if count == registers_of(words) { 34 } else { 33 }
+}
+
+// The line of a refusal, with its cause.
+fn put_refused_check(
+    text: &mut [u8],
+    words: &[u32],
+    period: u32,
+    count: usize,
+    number: u32,
+    place: usize,
+) -> usize
     requires { ⌜ linePlaces ≤ length (now text) ⌝ }
-    ensures { λ r. ⌜ Put linePlaces (checkedLine (now (words .entry)) period (now (timings .entry))) (now (text .entry)) 0 (now (text .exit)) r ⌝ }
+    ensures { λ r. ⌜
+        Put lineWidth (causedLine number place (checkCause (now (words .entry)) period count number)) (now (text .entry)) 0 (now (text .exit)) r
+        ⌝ }
+{
+    let cause = check_cause(words, period, count, number);
+    refusal_text::put_caused(text, number, place, cause)
+}
+
+// The check of a schedule against a run of words.
+fn put_checked(text: &mut [u8], words: &[u32], period: u32, timings: &[u32]) -> Said
+    requires { ⌜ linePlaces ≤ length (now text) ⌝ }
+    ensures { λ r. ⌜ SaidAs linePlaces (checkedLine (now (words .entry)) period (now (timings .entry))) (now (text .entry)) (now (text .exit)) r ⌝ }
 {
     match checker::check(words, period, timings) {
-        Checking::Refused(number, place) => refusal_text::put_refusal(text, number, place),
-        Checking::Admissible => put_bytes(text, 0, b"admissible\n"),
-        Checking::Broken(k, rule) => put_broken(text, words, k, rule),
+        Checking::Refused(number, place) => {
+            let size = put_refused_check(text, words, period, timings.len(), number, place);
+            Said::Trouble(size)
+        }
+        Checking::Admissible => {
+            let size = put_bytes(text, 0, b"admissible\n");
+            Said::Text(size)
+        }
+        Checking::Broken(k, rule) => {
+            let size = put_broken(text, words, k, rule);
+            Said::Text(size)
+        }
     }
 }
 
 // And against the bytes of a list.
-fn put_against(text: &mut [u8], bytes: &[u8], period: u32, timings: &[u32]) -> usize
+fn put_against(text: &mut [u8], bytes: &[u8], period: u32, timings: &[u32]) -> Said
     requires { ⌜ linePlaces ≤ length (now text) ⌝ }
-    ensures { λ r. ⌜ Put linePlaces (checkedLine (listOf (now (bytes .entry))) period (now (timings .entry)))
-        (now (text .entry)) 0 (now (text .exit)) r ⌝ }
+    ensures { λ r. ⌜ SaidAs linePlaces (checkedLine (listOf (now (bytes .entry))) period (now (timings .entry)))
+        (now (text .entry)) (now (text .exit)) r ⌝ }
 {
     let mut words = [0u32; MAX_WORDS];
     let count = list_bytes::load(bytes, &mut words);
@@ -72,19 +131,16 @@ fn put_against(text: &mut [u8], bytes: &[u8], period: u32, timings: &[u32]) -> u
 }
 
 // Checks the schedule whose text is given, one timing for each register, against the list whose bytes are given. The line is stored in the
-// first places of `text`; later places keep their contents. The count of its bytes is returned.
-pub fn check_text(bytes: &[u8], period: u32, timings: &[u8], text: &mut [u8; TEXT_PLACES]) -> usize
-    ensures { λ r. ⌜ Put linePlaces (checkText (now (bytes .entry)) period (now (timings .entry))) (now (text .entry)) 0 (now (text .exit)) r ⌝ }
+// first places of `text`; later places keep their contents.
+pub fn check_text(bytes: &[u8], period: u32, timings: &[u8], text: &mut [u8; TEXT_PLACES]) -> Said
+    ensures { λ r. ⌜ SaidAs linePlaces (checkText (now (bytes .entry)) period (now (timings .entry))) (now (text .entry)) (now (text .exit)) r ⌝ }
 {
     let mut numbers = [0u32; MAX_NUMBERS];
     match scan::scan(timings, false, &mut numbers) {
-        Scanned::Faulty(fault, line, column, byte) => refusal_text::put_fault(
-            text,
-            fault,
-            line,
-            column,
-            byte,
-        ),
+        Scanned::Faulty(fault, line, column, byte) => {
+            let size = refusal_text::put_fault(text, fault, line, column, byte);
+            Said::Trouble(size)
+        }
         Scanned::Numbers(count) => put_against(text, bytes, period, &numbers[..count]),
     }
 }

@@ -10,7 +10,7 @@ put-broken-requires c κs = (broken-in (c .before .before .before .before .check
 returns : tie.Need-returns
 returns c =
     let w = c .before .before .before .before .before in
-    line-refused (w .before .before .check .ensures) (w .number .given .1) (c .before .before .put-refusal .ensures)
+    line-refused (w .before .before .check .ensures) (w .number .given .1) (c .before .before .put-refused-check .ensures)
 
 returns-2 : tie.Need-returns-2
 returns-2 c =
