@@ -1,5 +1,5 @@
-// Arguments: a period and a file with a timing for each register. Reads the bytes of a delay list on standard input and prints whether
-// the schedule is admissible, or the first pair that breaks a rule.
+// Arguments: a period and a file with a timing for each register. Checks them against the delay list in the file that is named last, or
+// on standard input.
 fn main() {
-    text_programs::check_schedule(libc::STDIN_FILENO);
+    text_programs::check_schedule(libc::STDOUT_FILENO, libc::STDERR_FILENO);
 }

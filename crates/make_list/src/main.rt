@@ -1,4 +1,4 @@
-// Reads a delay list as plain text on standard input and writes its bytes; or, to standard error, one line that says what is wrong.
+// Makes the bytes of a delay list of the text in the file that is named, or on standard input.
 fn main() {
-    text_programs::make_list(libc::STDIN_FILENO, libc::STDERR_FILENO);
+    text_programs::make_list(libc::STDOUT_FILENO, libc::STDERR_FILENO);
 }

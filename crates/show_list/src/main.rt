@@ -1,4 +1,4 @@
-// Reads the bytes of a delay list on standard input and writes it as plain text, or one line that says what is wrong.
+// Writes the delay list in the file that is named, or on standard input, as text.
 fn main() {
-    text_programs::show_list(libc::STDIN_FILENO);
+    text_programs::show_list(libc::STDOUT_FILENO, libc::STDERR_FILENO);
 }

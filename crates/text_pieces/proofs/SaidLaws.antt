@@ -8,7 +8,7 @@ use Rattle.text_pieces.specs.Pieces.{Put}
 use Rattle.text_pieces.specs.Saying.{Saying, text, trouble, bytesOf, returnedFor, SaidAs}
 use Rattle.text_pieces.specs.declared.Said.{Said}
 use Rattle.text_pieces.specs.declared.Said.the-variants.{Text, Trouble}
-use Rattle.text_pieces.proofs.PutLaws.{put-within}
+use Rattle.text_pieces.proofs.PutLaws.{put-within, put-size}
 
 module _ {w v : ℕ} {piece was now : List ℕ} {next : ℕ} (put : Put w piece was 0 now next) (h : w ≤ v) where
   same : next ≡ length piece
@@ -36,3 +36,7 @@ said-put {w} {p} {was} {now} {r} {count} a e = rw (size p ∙ ap countOf (sym (a
     size : (p : Saying) → length (bytesOf p) ≡ countOf (returnedFor p)
     size (text bs) = refl
     size (trouble bs) = refl
+
+-- the buffer keeps its length
+pub said-size : {w : ℕ} {p : Saying} {was now : List ℕ} {r : Said} → SaidAs w p was now r → length now ≡ length was
+said-size a = put-size (a .stored)

@@ -1,114 +1,297 @@
-// The programs between delay lists and texts. Each reads from a descriptor and writes to standard output.
+// The programs between delay lists and texts. Each reads from the file that its last argument names, or from standard input, writes what
+// it makes to `output`, and what is wrong to `errors`.
 use arguments::Argument;
-use libc::STDOUT_FILENO;
+use libc::PATH_MAX;
 use list_bytes::MAX_BYTES;
 use list_text::Made;
 use scan::TEXT_BYTES;
+use streams::Got;
+use streams::Source;
+use streams::write_out;
+use text_pieces::Said;
 
-// A text becomes the bytes of its delay list, on standard output. Of a text that makes no list, one line that says what is wrong goes
-// to `errors`, and nothing to standard output.
-pub fn make_list(input: i32, errors: i32) {
-    let mut text = [0u8; TEXT_BYTES + 1];
-    let got = io::read_full(input, &mut text);
-    let mut out = [0u8; MAX_BYTES];
-    match list_text::make(&text[..got], &mut out) {
-        Made::Bytes(count) => {
-            io::write_all(STDOUT_FILENO, &out[..count]);
-        }
-        Made::Fault(count) => {
-            io::write_all(errors, &out[..count]);
-        }
+// What was said in the first bytes of a buffer: a text, or what is wrong.
+fn say(buffer: &[u8], said: Said, output: i32, errors: i32) {
+    match said {
+        Said::Text(count) => write_out(output, streams::first_of(buffer, count), errors),
+        Said::Trouble(count) => write_out(errors, streams::first_of(buffer, count), errors),
     }
 }
 
-// The bytes of a delay list become its text.
-pub fn show_list(input: i32) {
-    let mut bytes = [0u8; MAX_BYTES + 1];
-    let got = io::read_full(input, &mut bytes);
-    let mut text = [0u8; list_text::TEXT_PLACES];
-    let count = list_text::show(&bytes[..got], &mut text);
-    io::write_all(STDOUT_FILENO, &text[..count]);
-}
+// ---- make_list
 
-// The free schedule of the list whose bytes are read.
-pub fn free_schedule_of(input: i32) {
-    let mut bytes = [0u8; MAX_BYTES + 1];
-    let got = io::read_full(input, &mut bytes);
-    let mut text = [0u8; schedule_text::TEXT_PLACES];
-    let count = schedule_text::free_text(&bytes[..got], &mut text);
-    io::write_all(STDOUT_FILENO, &text[..count]);
-}
-
-// The first split at a period and an offset.
-pub fn print_split(input: i32, period: u32, offset: u32) {
-    let mut bytes = [0u8; MAX_BYTES + 1];
-    let got = io::read_full(input, &mut bytes);
-    let mut text = [0u8; schedule_text::TEXT_PLACES];
-    let count = schedule_text::split_text(&bytes[..got], period, offset, &mut text);
-    io::write_all(STDOUT_FILENO, &text[..count]);
-}
-
-fn split_usage() {
-    io::write_all(
-        STDOUT_FILENO,
-        b"use: split_at PERIOD OFFSET, two whole numbers of picoseconds, with the list on standard input\n",
+fn make_usage(to: i32, errors: i32) {
+    write_out(
+        to,
+        b"use: make_list [FILE]\nMakes the bytes of a delay list of the text in FILE, or on standard input: in the first line the count of registers and, if\nyou like, that of pairs, then a line for each pair: launch capture least greatest. Commas count as spaces, # begins a comment.\n",
+        errors,
     );
 }
 
-// The same, with the period and the offset as arguments of the program.
-pub fn split_at(input: i32) {
-    if os::arg_count() != 3 {
-        split_usage();
-        return;
+// The bytes of the list that a text describes.
+fn make_received(text: &[u8; TEXT_BYTES + 1], got: usize, output: i32, errors: i32) {
+    let mut out = [0u8; MAX_BYTES];
+    match list_text::make(streams::text_received(text, got), &mut out) {
+        Made::Bytes(count) => write_out(output, streams::first_of(&out, count), errors),
+        Made::Fault(count) => write_out(errors, streams::first_of(&out, count), errors),
     }
+}
+
+// From the file with that name, or standard input.
+pub fn make_from(input: i32, name: &[u8], output: i32, errors: i32) {
+    let mut text = [0u8; TEXT_BYTES + 1];
+    match streams::receive(input, name, &mut text, errors) {
+        Got::Nothing => {}
+        Got::Bytes(got) => make_received(&text, got, output, errors),
+    }
+}
+
+pub fn make_list(output: i32, errors: i32) {
+    let mut path = [0u8; PATH_MAX];
+    match streams::input_of(0, &mut path, errors) {
+        Source::Nothing => {}
+        Source::Help => make_usage(output, errors),
+        Source::Misused => make_usage(errors, errors),
+        Source::Given(input, size) => make_from(input, streams::name_of(&path, size), output, errors),
+    }
+}
+
+// ---- show_list
+
+fn show_usage(to: i32, errors: i32) {
+    write_out(
+        to,
+        b"use: show_list [FILE]\nWrites the delay list in FILE, or on standard input, as text: the counts of registers and of pairs, then a line for each\npair: launch capture least greatest. make_list reads it back.\n",
+        errors,
+    );
+}
+
+// The text of a list, from the bytes that were received.
+fn show_received(bytes: &[u8; MAX_BYTES + 1], got: usize, output: i32, errors: i32) {
+    let mut text = [0u8; list_text::TEXT_PLACES];
+    let said = list_text::show(streams::list_received(bytes, got), &mut text);
+    say(&text, said, output, errors);
+}
+
+pub fn show_from(input: i32, name: &[u8], output: i32, errors: i32) {
+    let mut bytes = [0u8; MAX_BYTES + 1];
+    match streams::receive(input, name, &mut bytes, errors) {
+        Got::Nothing => {}
+        Got::Bytes(got) => show_received(&bytes, got, output, errors),
+    }
+}
+
+pub fn show_list(output: i32, errors: i32) {
+    let mut path = [0u8; PATH_MAX];
+    match streams::input_of(0, &mut path, errors) {
+        Source::Nothing => {}
+        Source::Help => show_usage(output, errors),
+        Source::Misused => show_usage(errors, errors),
+        Source::Given(input, size) => show_from(input, streams::name_of(&path, size), output, errors),
+    }
+}
+
+// ---- free_schedule_of
+
+fn free_usage(to: i32, errors: i32) {
+    write_out(
+        to,
+        b"use: free_schedule_of [FILE]\nPrints the common and the free period of the delay list in FILE, or on standard input, then a line for each register with\nits number and its free timing.\n",
+        errors,
+    );
+}
+
+fn free_received(bytes: &[u8; MAX_BYTES + 1], got: usize, output: i32, errors: i32) {
+    let mut text = [0u8; schedule_text::TEXT_PLACES];
+    let said = schedule_text::free_text(streams::list_received(bytes, got), &mut text);
+    say(&text, said, output, errors);
+}
+
+pub fn free_from(input: i32, name: &[u8], output: i32, errors: i32) {
+    let mut bytes = [0u8; MAX_BYTES + 1];
+    match streams::receive(input, name, &mut bytes, errors) {
+        Got::Nothing => {}
+        Got::Bytes(got) => free_received(&bytes, got, output, errors),
+    }
+}
+
+pub fn free_schedule_of(output: i32, errors: i32) {
+    let mut path = [0u8; PATH_MAX];
+    match streams::input_of(0, &mut path, errors) {
+        Source::Nothing => {}
+        Source::Help => free_usage(output, errors),
+        Source::Misused => free_usage(errors, errors),
+        Source::Given(input, size) => free_from(input, streams::name_of(&path, size), output, errors),
+    }
+}
+
+// ---- split_at
+
+fn split_usage(to: i32, errors: i32) {
+    write_out(
+        to,
+        b"use: split_at PERIOD OFFSET [FILE]\nPrints the first split of the delay list in FILE, or on standard input, that works at the period and the offset, in whole\npicoseconds: a line for each register with its number and its timing; or that there is none.\n",
+        errors,
+    );
+}
+
+fn split_received(
+    bytes: &[u8; MAX_BYTES + 1],
+    got: usize,
+    period: u32,
+    offset: u32,
+    output: i32,
+    errors: i32,
+) {
+    let mut text = [0u8; schedule_text::TEXT_PLACES];
+    let said = schedule_text::split_text(
+        streams::list_received(bytes, got),
+        period,
+        offset,
+        &mut text,
+    );
+    say(&text, said, output, errors);
+}
+
+pub fn split_from(
+    input: i32,
+    name: &[u8],
+    period: u32,
+    offset: u32,
+    output: i32,
+    errors: i32,
+) {
+    let mut bytes = [0u8; MAX_BYTES + 1];
+    match streams::receive(input, name, &mut bytes, errors) {
+        Got::Nothing => {}
+        Got::Bytes(got) => split_received(&bytes, got, period, offset, output, errors),
+    }
+}
+
+// With the period and the offset as arguments.
+fn split_given(input: i32, name: &[u8], output: i32, errors: i32) {
     match arguments::number(1) {
-        Argument::Wrong => split_usage(),
+        Argument::Wrong => split_usage(errors, errors),
         Argument::Number(period) => match arguments::number(2) {
-            Argument::Wrong => split_usage(),
-            Argument::Number(offset) => print_split(input, period, offset),
+            Argument::Wrong => split_usage(errors, errors),
+            Argument::Number(offset) => split_from(input, name, period, offset, output, errors),
         },
     }
 }
 
-// The check of the schedule that `timings` gives, at a period.
-pub fn print_check(input: i32, period: u32, timings: i32) {
-    let mut bytes = [0u8; MAX_BYTES + 1];
-    let got = io::read_full(input, &mut bytes);
-    let mut schedule = [0u8; TEXT_BYTES + 1];
-    let size = io::read_full(timings, &mut schedule);
-    let mut text = [0u8; check_text::TEXT_PLACES];
-    let count = check_text::check_text(&bytes[..got], period, &schedule[..size], &mut text);
-    io::write_all(STDOUT_FILENO, &text[..count]);
+pub fn split_at(output: i32, errors: i32) {
+    let mut path = [0u8; PATH_MAX];
+    match streams::input_of(2, &mut path, errors) {
+        Source::Nothing => {}
+        Source::Help => split_usage(output, errors),
+        Source::Misused => split_usage(errors, errors),
+        Source::Given(input, size) => split_given(input, streams::name_of(&path, size), output, errors),
+    }
 }
 
-fn check_usage() {
-    io::write_all(
-        STDOUT_FILENO,
-        b"use: check_schedule PERIOD FILE, with a timing for each register in FILE and the list on standard input\n",
+// ---- check_schedule
+
+fn check_usage(to: i32, errors: i32) {
+    write_out(
+        to,
+        b"use: check_schedule PERIOD TIMINGS [FILE]\nChecks the schedule in the file TIMINGS, a timing in picoseconds for each register, at the period against the delay list in\nFILE, or on standard input. Prints admissible, or the first pair that breaks a rule.\n",
+        errors,
     );
 }
 
-// The same, with the schedule in the file that argument 2 names.
-fn check_file(input: i32, period: u32) {
-    let mut path = io::buffer();
-    let size = os::arg(2, &mut path);
-    let timings = os::open_read(&path[..size]);
-    if timings < 0 {
-        io::write_all(STDOUT_FILENO, b"the file of timings cannot be opened\n");
-        return;
-    }
-    print_check(input, period, timings);
-    libc::close(timings);
+fn check_received(
+    bytes: &[u8; MAX_BYTES + 1],
+    got: usize,
+    period: u32,
+    timings: &[u8; TEXT_BYTES + 1],
+    size: usize,
+    output: i32,
+    errors: i32,
+) {
+    let mut text = [0u8; check_text::TEXT_PLACES];
+    let said = check_text::check_text(
+        streams::list_received(bytes, got),
+        period,
+        streams::text_received(timings, size),
+        &mut text,
+    );
+    say(&text, said, output, errors);
 }
 
-// The same, with the period as argument 1.
-pub fn check_schedule(input: i32) {
-    if os::arg_count() != 3 {
-        check_usage();
-        return;
+// With the bytes of the list at hand, the timings are read.
+fn check_read(
+    bytes: &[u8; MAX_BYTES + 1],
+    got: usize,
+    period: u32,
+    timings: i32,
+    name: &[u8],
+    output: i32,
+    errors: i32,
+) {
+    let mut text = [0u8; TEXT_BYTES + 1];
+    match streams::receive(timings, name, &mut text, errors) {
+        Got::Nothing => {}
+        Got::Bytes(size) => check_received(bytes, got, period, &text, size, output, errors),
     }
+}
+
+// The list from `input`, the timings from `timings`, each with the name of its file.
+pub fn check_from(
+    input: i32,
+    name: &[u8],
+    period: u32,
+    timings: i32,
+    timings_name: &[u8],
+    output: i32,
+    errors: i32,
+) {
+    let mut bytes = [0u8; MAX_BYTES + 1];
+    match streams::receive(input, name, &mut bytes, errors) {
+        Got::Nothing => {}
+        Got::Bytes(got) => check_read(
+            &bytes,
+            got,
+            period,
+            timings,
+            timings_name,
+            output,
+            errors,
+        ),
+    }
+}
+
+// With the timings in the file that argument 2 names.
+fn check_file(input: i32, name: &[u8], period: u32, output: i32, errors: i32) {
+    let mut path = [0u8; PATH_MAX];
+    match streams::open(2, &mut path, errors) {
+        Source::Given(timings, size) => check_from(
+            input,
+            name,
+            period,
+            timings,
+            streams::name_of(&path, size),
+            output,
+            errors,
+        ),
+        Source::Nothing => {}
+        _ => check_usage(errors, errors),
+    }
+}
+
+// With the period as argument 1.
+fn check_given(input: i32, name: &[u8], output: i32, errors: i32) {
     match arguments::number(1) {
-        Argument::Wrong => check_usage(),
-        Argument::Number(period) => check_file(input, period),
+        Argument::Wrong => check_usage(errors, errors),
+        Argument::Number(period) => check_file(input, name, period, output, errors),
+    }
+}
+
+pub fn check_schedule(output: i32, errors: i32) {
+    let mut path = [0u8; PATH_MAX];
+    match streams::input_of(2, &mut path, errors) {
+        Source::Nothing => {}
+        Source::Help => check_usage(output, errors),
+        Source::Misused => check_usage(errors, errors),
+        Source::Given(input, size) => check_given(input, streams::name_of(&path, size), output, errors),
     }
 }
