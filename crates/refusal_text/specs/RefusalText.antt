@@ -4,13 +4,17 @@ use Prim.Native.String.{String}
 use mathlib.Core.Bool.{cond}
 use mathlib.Core.List.{List, [], _∷_, _++_}
 use lib.Dec.{ltb, eqb}
-use Rattle.text_pieces.specs.Pieces.{letters, named, numberWidth, refusedAt}
+use Rattle.text_pieces.specs.Pieces.{letters, named, space, numberWidth, refusedAt}
 
 abbrev pub colon : ℕ
 colon = 58
 
 abbrev pub comma : ℕ
 comma = 44
+
+-- `)`
+abbrev pub closing : ℕ
+closing = 41
 
 -- ---- how long a line can be
 
@@ -70,6 +74,10 @@ trouble = wordsFor troubles " the text is longer than 131072 bytes\n"
 
 unfoldable pub refusalLine : ℕ → ℕ → List ℕ
 refusalLine number place = refusedAt number place colon ++ meaning number
+
+-- the refusal of a list that was made from a text, with the line of the text
+unfoldable pub refusalLineIn : ℕ → ℕ → ℕ → List ℕ
+refusalLineIn number place line = refusedAt number place space ++ (named (letters "(line ") line closing ++ (letters ":" ++ meaning number))
 
 -- the byte at fault; 256 is the end of the text
 unfoldable pub byteWords : ℕ → List ℕ
