@@ -1,11 +1,13 @@
 -- From what reading, writing and scanning promise to the text that is stored.
 use Prim.Native.Nat.{ℕ, suc, _+_, _-_, _*_, _≤_, _<_}
-use mathlib.Core.Bool.{true}
+use mathlib.Core.Bool.{Bool, true, false, _&&_}
 use mathlib.Core.List.{List, [], _∷_}
 use mathlib.Core.Path.{_≡_, refl, sym, _∙_, ap}
 use native.Mathlib.Omega.{arith}
+use lib.Dec.{ltb, leb}
 use lib.ListN.{length, getD, take, drop}
 use lib.Seq.{take-at}
+use borrow.Author.Tests.{ltb-true}
 use Rattle.timing.specs.Limits.{maxPairs}
 use Rattle.buffers.specs.Over.{over, zeros}
 use Rattle.buffers.proofs.FillLaws.{filled-front, filled-fits}
@@ -32,14 +34,14 @@ use Rattle.text_pieces.specs.Saying.{SaidAs, text as sayText}
 use Rattle.text_pieces.specs.declared.Said.the-variants.{Text, Trouble}
 use Rattle.text_pieces.proofs.PutLaws.{put-within}
 use Rattle.text_pieces.proofs.SaidLaws.{said-text, said-trouble}
-use Rattle.refusal_text.specs.RefusalText.{lineWidth, refusalLine, refusedSaying, faultLine}
+use Rattle.refusal_text.specs.RefusalText.{lineWidth, refusalLine, refusalLineIn, refusedSaying, faultLine}
 use Rattle.list_bytes.specs.ListBytes.{maxWords, maxBytes}
 use Rattle.scan.specs.declared.Scanned.{Scanned}
 use Rattle.scan.specs.declared.Scanned.the-variants.{Numbers, Faulty}
-use Rattle.scan.specs.Scan.{maxNumbers, storedOf, Counted, ScanAs}
+use Rattle.scan.specs.Scan.{maxNumbers, lineOfPair, storedOf, Counted, ScanAs}
 use Rattle.scan.proofs.StoredLaws.{stored-some, stored-first}
 use Rattle.list_text.specs.ListText.{listWidth, shownPlaces, textOf, shownSaid, Product, listBytes, errorLine, madeRefused, madeDone}
-use Rattle.list_text.specs.ListText.{madeFrom, madeOf, made, storedFor, returnedFor, MadeAs}
+use Rattle.list_text.specs.ListText.{ofPair, refusedLine, madeFrom, madeOf, made, storedFor, returnedFor, MadeAs}
 use Rattle.list_text.specs.declared.Made.{Made}
 use Rattle.list_text.specs.declared.Made.the-variants.{Bytes, Fault}
 
@@ -139,15 +141,42 @@ made-put {p} {out} {out′} {r} {count} a e = rw (size p ∙ ap countOf (sym (a 
     size (listBytes bs) = refl
     size (errorLine bs) = refl
 
+-- a refusal of a pair is of one that a list can have
+pub of-pair-few : (number place : ℕ) → ofPair number place ≡ true → place ≤ maxPairs
+unfolding ofPair
+of-pair-few number place = go (leb 14 number) (leb number 16) (ltb place maxPairs) refl
+  where
+    never : false ≡ true → ⊥
+    never h =
+        let z : _≡_ {A = ℕ} 0 1 = cc in
+        omega arith
+
+    go : (a b c : Bool) → ltb place maxPairs ≡ c → (a && (b && c)) ≡ true → place ≤ maxPairs
+    go true true true e h = omega (arith, ltb-true place maxPairs e)
+    go true true false e h = absurd (never h)
+    go true false c e h = absurd (never h)
+    go false b c e h = absurd (never h)
+
+module _ (bs : List ℕ) (number place : ℕ) {out out′ : List ℕ} {next : ℕ} where
+  pub refused-pair : {line : ℕ} → ofPair number place ≡ true → line ≡ lineOfPair place bs
+      → Put lineWidth (refusalLineIn number place line) out 0 out′ next → Put lineWidth (refusedLine bs number place) out 0 out′ next
+  unfolding refusedLine
+  refused-pair e l put = rw (e, ← l) put
+
+  pub refused-plain : ofPair number place ≡ false
+      → Put lineWidth (refusalLine number place) out 0 out′ next → Put lineWidth (refusedLine bs number place) out 0 out′ next
+  unfolding refusedLine
+  refused-plain e put = rw e put
+
 module _ {n : ℕ} {xs now : List ℕ} {r : Writing} (a : WrittenAs n xs (zeros maxWords) now r) where
   answer : writeReply r ≡ replyOf (writing n xs maxWords)
   answer = rw (zeros-size maxWords) at (a .reply)
 
-  pub make-refused : {number place next : ℕ} {out out′ : List ℕ} → r ≡ NotWritten number place
-      → Put lineWidth (refusalLine number place) out 0 out′ next
-      → MadeAs (madeFrom n xs) out out′ (Fault next)
+  pub make-refused : (bs : List ℕ) {number place next : ℕ} {out out′ : List ℕ} → r ≡ NotWritten number place
+      → Put lineWidth (refusedLine bs number place) out 0 out′ next
+      → MadeAs (madeFrom bs n xs) out out′ (Fault next)
   unfolding writeReply
-  make-refused e put = rw (told-refusal madeRefused madeDone (writing n xs maxWords) (rw e at answer)) (made-fault put)
+  make-refused bs e put = rw (told-refusal (madeRefused bs) madeDone (writing n xs maxWords) (rw e at answer)) (made-fault put)
 
   module _ {count : ℕ} (e : r ≡ Written count) where
     given : numbers (count ∷ []) ≡ replyOf (writing n xs maxWords)
@@ -186,12 +215,12 @@ module _ {n : ℕ} {xs now : List ℕ} {r : Writing} (a : WrittenAs n xs (zeros 
     pub written-size : count ≡ length (take count now)
     written-size = rw words-are (sym word-size)
 
-    pub make-written : {next : ℕ} {out out′ : List ℕ} → Put (4 * length (take count now))
+    pub make-written : (bs : List ℕ) {next : ℕ} {out out′ : List ℕ} → Put (4 * length (take count now))
         (toBytes (take count now) (length (take count now))) out 0 out′ next
-        → MadeAs (madeFrom n xs) out out′ (Bytes next)
+        → MadeAs (madeFrom bs n xs) out out′ (Bytes next)
     unfolding told
-    make-written put =
-        let here : madeFrom n xs ≡ listBytes (toBytes (take count now) (length (take count now))) = rw (written, words-are) in
+    make-written bs put =
+        let here : madeFrom bs n xs ≡ listBytes (toBytes (take count now) (length (take count now))) = rw (written, words-are) in
         rw here (made-bytes (put-within put (omega (arith, put .most, written-size, written-few))))
 
 -- ---- the numbers of a text
@@ -218,11 +247,11 @@ module _ {text xs : List ℕ} {r : Scanned} (a : ScanAs true text (zeros maxNumb
     pub numbers-some : 1 ≤ count
     numbers-some = counted .some
 
-    pub make-numbers : {r : Made} {out out′ : List ℕ} → MadeAs (madeFrom (getD xs 0 0) (take (count - 1) (drop 1 xs))) out out′ r
+    pub make-numbers : {r : Made} {out out′ : List ℕ} → MadeAs (madeFrom text (getD xs 0 0) (take (count - 1) (drop 1 xs))) out out′ r
         → MadeAs (made text) out out′ r
     unfolding madeOf
     make-numbers m =
         let rest : take (count - 1) (drop 1 xs) ≡ drop 1 (storedOf true text) =
         rw (a .stored, counted .size) (rest-is (storedOf true text) (zeros maxNumbers) (stored-some a e)) in
-        let here : made text ≡ madeFrom (getD xs 0 0) (take (count - 1) (drop 1 xs)) = rw (← a .answer, e, stored-first a e, rest) in
+        let here : made text ≡ madeFrom text (getD xs 0 0) (take (count - 1) (drop 1 xs)) = rw (← a .answer, e, stored-first a e, rest) in
         rw here m

@@ -1,8 +1,9 @@
 -- A delay list as plain text: the counts of registers and of pairs in the first line, then a line for each pair, launch capture least greatest.
 use Prim.Native.Nat.{ℕ, _+_, _*_}
-use mathlib.Core.Bool.{true}
+use mathlib.Core.Bool.{Bool, true, cond, _&&_}
 use mathlib.Core.List.{List, _++_}
 use mathlib.Core.Path.{_≡_}
+use lib.Dec.{ltb, leb}
 use lib.ListN.{length, getD, drop}
 use Rattle.timing.specs.Limits.{maxPairs}
 use Rattle.buffers.specs.Run.{run}
@@ -13,9 +14,9 @@ use Rattle.list_format.specs.Write.{givenCount, writing}
 use Rattle.text_pieces.specs.Pieces.{number, space, newline, numberWidth, Put}
 use Rattle.scan.specs.declared.Scanned.{Scanned}
 use Rattle.scan.specs.declared.Scanned.the-variants.{Numbers, Faulty}
-use Rattle.scan.specs.Scan.{scanned, storedOf}
+use Rattle.scan.specs.Scan.{lineOfPair, scanned, storedOf}
 use Rattle.text_pieces.specs.Saying.{Saying, text}
-use Rattle.refusal_text.specs.RefusalText.{lineWidth, refusalLine, refusedSaying, faultLine}
+use Rattle.refusal_text.specs.RefusalText.{lineWidth, refusalLine, refusalLineIn, refusedSaying, faultLine}
 use Rattle.list_bytes.specs.ListBytes.{maxWords, maxBytes, listOf}
 use Rattle.list_text.specs.declared.Made.{Made}
 use Rattle.list_text.specs.declared.Made.the-variants.{Bytes, Fault}
@@ -66,25 +67,34 @@ pub data Product : Type 0 where
   listBytes : List ℕ → Product
   errorLine : List ℕ → Product
 
-abbrev pub madeRefused : ℕ → ℕ → Product
-madeRefused number place = errorLine (refusalLine number place)
+-- whether a refusal is of a pair: 14, 15 and 16 are, and their place is its index
+unfoldable pub ofPair : ℕ → ℕ → Bool
+ofPair number place = leb 14 number && (leb number 16 && ltb place maxPairs)
+
+-- a refusal of a pair names its line in the text bs too
+unfoldable pub refusedLine : List ℕ → ℕ → ℕ → List ℕ
+refusedLine bs number place =
+    cond (ofPair number place) (refusalLineIn number place (lineOfPair place bs)) (refusalLine number place)
+
+abbrev pub madeRefused : List ℕ → ℕ → ℕ → Product
+madeRefused bs number place = errorLine (refusedLine bs number place)
 
 -- the bytes of all words that writing stores
 abbrev pub madeDone : List ℕ → List ℕ → Product
 madeDone returned stored = listBytes (toBytes stored (length stored))
 
--- from the count of registers and the numbers of the pairs
-abbrev pub madeFrom : ℕ → List ℕ → Product
-madeFrom n xs = told madeRefused madeDone (writing n xs maxWords)
+-- from the count of registers and the numbers of the pairs, which stand in the text bs
+abbrev pub madeFrom : List ℕ → ℕ → List ℕ → Product
+madeFrom bs n xs = told (madeRefused bs) madeDone (writing n xs maxWords)
 
 -- from the numbers of a text: the count of registers, then four for each pair. (A count of pairs is not among them: Scan.`numberEnded`)
-unfoldable pub madeOf : Scanned → List ℕ → Product
-madeOf (Faulty fault line column byte) xs = errorLine (faultLine fault line column byte)
-madeOf (Numbers count) xs = madeFrom (getD xs 0 0) (drop 1 xs)
+unfoldable pub madeOf : List ℕ → Scanned → List ℕ → Product
+madeOf bs (Faulty fault line column byte) xs = errorLine (faultLine fault line column byte)
+madeOf bs (Numbers count) xs = madeFrom bs (getD xs 0 0) (drop 1 xs)
 
 -- what is made of a text
 abbrev pub made : List ℕ → Product
-made bs = madeOf (scanned true bs) (storedOf true bs)
+made bs = madeOf bs (scanned true bs) (storedOf true bs)
 
 -- the bytes stored
 unfoldable pub storedFor : Product → List ℕ

@@ -2,15 +2,17 @@
 // The contracts cite `specs/ListText.antt`.
 ghost use Prim.Native.Nat.{_+_, _*_, _≤_};
 ghost use lib.ListN.{length};
+ghost use mathlib.Core.Path.{_≡_};
 ghost use Rattle.text_pieces.specs.Pieces.{Put};
 ghost use Rattle.refusals.specs.Reply.{told};
 ghost use Rattle.text_pieces.specs.Saying.{SaidAs};
-ghost use Rattle.refusal_text.specs.RefusalText.{refusedSaying};
+ghost use Rattle.refusal_text.specs.RefusalText.{lineWidth, refusedSaying};
 ghost use Rattle.list_format.specs.Read.{reading};
 ghost use Rattle.list_bytes.specs.ListBytes.{maxBytes};
 ghost use Rattle.timing.specs.Limits.{maxPairs};
+ghost use Rattle.scan.specs.Scan.{textBytes};
 ghost use Rattle.list_text.specs.ListText.{pairWidth, listWidth, shownPlaces, fourLine, pairLine, textOf, shownSaid, shownText};
-ghost use Rattle.list_text.specs.ListText.{madeFrom, made, MadeAs};
+ghost use Rattle.list_text.specs.ListText.{ofPair, refusedLine, madeFrom, made, MadeAs};
 ghost use Rattle.buffers.specs.Run.{run};
 ghost use Rattle.words.specs.Bytes.{toBytes};
 use list_bytes::MAX_BYTES;
@@ -127,15 +129,40 @@ pub enum Made {
     Fault(usize),
 }
 
-// The bytes of the list that the numbers make.
-fn put_made(out: &mut [u8], n: u32, numbers: &[u32]) -> Made
-    requires { ⌜ maxBytes ≤ length (now out) ⌝ }
-    ensures { λ r. ⌜ MadeAs (madeFrom n (now (numbers .entry))) (now (out .entry)) (now (out .exit)) r ⌝ }
+// Whether a refusal is of a pair.
+fn of_pair(number: u32, place: usize) -> bool
+    ensures { λ r. ⌜ r ≡ ofPair number place ⌝ }
+{
+    if number < 14 {
+        return false;
+    }
+    if number > 16 {
+        return false;
+    }
+    place < MAX_PAIRS
+}
+
+// The line of a refusal, with the line of the text if it is of a pair.
+fn put_refused(out: &mut [u8], text: &[u8], number: u32, place: usize) -> usize
+    requires { ⌜ (lineWidth ≤ length (now out)) × (length (now text) ≤ textBytes) ⌝ }
+    ensures { λ r. ⌜ Put lineWidth (refusedLine (now (text .entry)) number place) (now (out .entry)) 0 (now (out .exit)) r ⌝ }
+{
+    if of_pair(number, place) {
+        let line = scan::line_of_pair(text, place);
+        return refusal_text::put_refusal_in(out, number, place, line);
+    }
+    refusal_text::put_refusal(out, number, place)
+}
+
+// The bytes of the list that the numbers make, which stand in the text.
+fn put_made(out: &mut [u8], text: &[u8], n: u32, numbers: &[u32]) -> Made
+    requires { ⌜ (maxBytes ≤ length (now out)) × (length (now text) ≤ textBytes) ⌝ }
+    ensures { λ r. ⌜ MadeAs (madeFrom (now (text .entry)) n (now (numbers .entry))) (now (out .entry)) (now (out .exit)) r ⌝ }
 {
     let mut words = [0u32; MAX_WORDS];
     match write_list::write(n, numbers, &mut words) {
         Writing::Refused(number, place) => {
-            let size = refusal_text::put_refusal(out, number, place);
+            let size = put_refused(out, text, number, place);
             Made::Fault(size)
         }
         Writing::Written(count) => {
@@ -156,6 +183,6 @@ pub fn make(text: &[u8], out: &mut [u8; MAX_BYTES]) -> Made
             let size = refusal_text::put_fault(out, fault, line, column, byte);
             Made::Fault(size)
         }
-        Scanned::Numbers(count) => put_made(out, numbers[0], &numbers[1..count]),
+        Scanned::Numbers(count) => put_made(out, text, numbers[0], &numbers[1..count]),
     }
 }

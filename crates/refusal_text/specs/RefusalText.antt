@@ -4,7 +4,7 @@ use Prim.Native.String.{String}
 use mathlib.Core.Bool.{cond}
 use mathlib.Core.List.{List, [], _∷_, _++_}
 use lib.Dec.{ltb, eqb}
-use Rattle.text_pieces.specs.Pieces.{letters, named, numberWidth, refusedAt}
+use Rattle.text_pieces.specs.Pieces.{letters, named, space, numberWidth, refusedAt}
 use Rattle.text_pieces.specs.Saying.{Saying, trouble as sayTrouble}
 
 abbrev pub colon : ℕ
@@ -12,6 +12,10 @@ colon = 58
 
 abbrev pub comma : ℕ
 comma = 44
+
+-- `)`
+abbrev pub closing : ℕ
+closing = 41
 
 -- ---- how long a line can be
 
@@ -84,6 +88,10 @@ refusalLine number place = causedLine number place number
 -- the same, as what a program says
 abbrev pub refusedSaying : ℕ → ℕ → Saying
 refusedSaying number place = sayTrouble (refusalLine number place)
+
+-- the refusal of a list that was made from a text, with the line of the text
+unfoldable pub refusalLineIn : ℕ → ℕ → ℕ → List ℕ
+refusalLineIn number place line = refusedAt number place space ++ (named (letters "(line ") line closing ++ (letters ":" ++ meaning number))
 
 -- the byte at fault; 256 is the end of the text
 unfoldable pub byteWords : ℕ → List ℕ

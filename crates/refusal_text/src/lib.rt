@@ -4,7 +4,7 @@ ghost use Prim.Native.Nat.{_+_, _≤_};
 ghost use lib.ListN.{length};
 ghost use Rattle.text_pieces.specs.Pieces.{Put};
 ghost use Rattle.refusal_text.specs.RefusalText.{byteWidth, placeWidth, wordsWidth, lineWidth, meaning, trouble, byteWords, placeWords, causedLine};
-ghost use Rattle.refusal_text.specs.RefusalText.{refusalLine, faultLine};
+ghost use Rattle.refusal_text.specs.RefusalText.{refusalLine, refusalLineIn, faultLine};
 use text_pieces::NUMBER_WIDTH;
 use text_pieces::put_bytes;
 use text_pieces::put_named;
@@ -110,6 +110,17 @@ pub fn put_refusal(text: &mut [u8], number: u32, place: usize) -> usize
     ensures { λ r. ⌜ Put lineWidth (refusalLine number place) (now (text .entry)) 0 (now (text .exit)) r ⌝ }
 {
     put_caused(text, number, place, number)
+}
+
+// The line of a refusal of a list that was made from a text, with the line of the text.
+pub fn put_refusal_in(text: &mut [u8], number: u32, place: usize, line: usize) -> usize
+    requires { ⌜ lineWidth ≤ length (now text) ⌝ }
+    ensures { λ r. ⌜ Put lineWidth (refusalLineIn number place line) (now (text .entry)) 0 (now (text .exit)) r ⌝ }
+{
+    let a = put_refused(text, number, place, b' ');
+    let b = put_named(text, a, b"(line ", line as u64, b')');
+    let c = put_bytes(text, b, b":");
+    put_meaning(text, c, number)
 }
 
 // The byte at fault, or the end of the text.

@@ -239,7 +239,7 @@ no-mark lined (b ∷ bs) h = go (eqb b 239) refl
 -- ---- the whole text
 
 -- the part after the mark, as it is lent
-lent-is : (bs : List ℕ) (from : ℕ) → take (length bs - from) (drop from bs) ≡ drop from bs
+pub lent-is : (bs : List ℕ) (from : ℕ) → take (length bs - from) (drop from bs) ≡ drop from bs
 lent-is bs from = take-all (length bs - from) (drop from bs) (rw length-drop (omega arith))
 
 pub lent-short : (bs : List ℕ) (from : ℕ) → length bs ≤ textBytes → length (take (length bs - from) (drop from bs)) ≤ textBytes

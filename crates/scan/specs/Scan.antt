@@ -246,6 +246,13 @@ markSize bs = cond (eqb (getD bs 0 0) 239 && (eqb (getD bs 1 0) 187 && eqb (getD
 abbrev pub withoutMark : List ℕ → List ℕ
 withoutMark bs = drop (markSize bs) bs
 
+-- the line of pair k of a list: that in which `4 * k + 5` numbers have ended
+abbrev pub lineIn : ℕ → List ℕ → ℕ
+lineIn enough ts = placeOf ts (goesTo enough (start true) ts) .line
+
+abbrev pub lineOfPair : ℕ → List ℕ → ℕ
+lineOfPair k bs = lineIn (4 * k + 5) (withoutMark bs)
+
 -- 7: a text that is too long, the mark counted: the first byte too many is at fault
 unfoldable pub scanned : Bool → List ℕ → Scanned
 scanned lined bs = cond (ltb textBytes (length bs)) (faultyAt 7 bs textBytes) (resultOf lined (withoutMark bs))

@@ -3,9 +3,10 @@
 ghost use mathlib.Core.Path.{_≡_};
 ghost use Prim.Native.Nat.{_+_, _≤_, _<_};
 ghost use lib.ListN.{length, getD};
+ghost use Rattle.timing.specs.Limits.{maxPairs};
 ghost use Rattle.scan.specs.Scan.{textBytes, maxNumbers, isBlank, start, failed, withDigit, isSecond, numberEnded, lineFault, lineEnded};
 ghost use Rattle.scan.specs.Scan.{stepInLine, step, endFault, finished, keptIn, nextPlace, placeOf, stops};
-ghost use Rattle.scan.specs.Scan.{faultyAt, markSize, StateIn, PlaceIn, ScannedTo, GoesTo, TextAs, ScanAs};
+ghost use Rattle.scan.specs.Scan.{faultyAt, lineIn, lineOfPair, markSize, StateIn, PlaceIn, ScannedTo, GoesTo, TextAs, ScanAs};
 use timing::MAX_PAIRS;
 
 // The most numbers that a text may hold: the count of registers, and four for each pair.
@@ -423,6 +424,25 @@ fn mark_size(bytes: &[u8]) -> usize
         return 0;
     }
     3
+}
+
+// The line of a list in which `enough` numbers have ended.
+fn line_in(text: &[u8], enough: usize) -> usize
+    requires { ⌜ length (now text) ≤ textBytes ⌝ }
+    ensures { λ r. ⌜ r ≡ lineIn enough (now (text .entry)) ⌝ }
+{
+    let at = goes_to(text, true, enough);
+    let place = place_of(text, at);
+    place.line
+}
+
+// The line of pair k in the text of a list.
+pub fn line_of_pair(bytes: &[u8], k: usize) -> usize
+    requires { ⌜ (length (now bytes) ≤ textBytes) × (k ≤ maxPairs) ⌝ }
+    ensures { λ r. ⌜ r ≡ lineOfPair k (now (bytes .entry)) ⌝ }
+{
+    let from = mark_size(bytes);
+    line_in(&bytes[from..], 4 * k + 5)
 }
 
 // The numbers of a text, in the first places of `numbers`; later places keep their contents. Their count is returned.

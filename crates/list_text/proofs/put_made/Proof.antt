@@ -13,14 +13,16 @@ put-bytes-requires c κs =
 
 returns : tie.Need-returns
 returns c =
-    make-refused (c .before .before .before .before .before .before .before .before .write .ensures)
-    (c .before .before .before .before .before .number .given .1)
-    (c .before .before .put-refusal .ensures)
+    let w = c .before .before .before .before .before in
+    let v = w .before .before .before in
+    make-refused (v .write .ensures) (v .before .before .before .before .before .args .text .now) (w .number .given .1)
+    (c .before .before .put-refused .ensures)
 
 returns-2 : tie.Need-returns-2
 returns-2 c =
-    make-written (c .before .before .before .before .before .before .before .before .before .write .ensures)
-    (c .before .before .before .before .before .before .count .given .1)
+    let w = c .before .before .before .before .before .before in
+    let v = w .before .before .before in
+    make-written (v .write .ensures) (w .count .given .1) (v .before .before .before .before .before .args .text .now)
     (c .before .before .put-bytes .ensures)
 
 pub put-made-spec : {M : Type 1} → statement M
