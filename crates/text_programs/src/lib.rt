@@ -52,7 +52,12 @@ pub fn make_list(output: i32, errors: i32) {
         Source::Nothing => {}
         Source::Help => make_usage(output, errors),
         Source::Misused => make_usage(errors, errors),
-        Source::Given(input, size) => make_from(input, streams::name_of(&path, size), output, errors),
+        Source::Given(input, size) => make_from(
+            input,
+            streams::name_of(&path, size),
+            output,
+            errors,
+        ),
     }
 }
 
@@ -87,7 +92,12 @@ pub fn show_list(output: i32, errors: i32) {
         Source::Nothing => {}
         Source::Help => show_usage(output, errors),
         Source::Misused => show_usage(errors, errors),
-        Source::Given(input, size) => show_from(input, streams::name_of(&path, size), output, errors),
+        Source::Given(input, size) => show_from(
+            input,
+            streams::name_of(&path, size),
+            output,
+            errors,
+        ),
     }
 }
 
@@ -121,7 +131,12 @@ pub fn free_schedule_of(output: i32, errors: i32) {
         Source::Nothing => {}
         Source::Help => free_usage(output, errors),
         Source::Misused => free_usage(errors, errors),
-        Source::Given(input, size) => free_from(input, streams::name_of(&path, size), output, errors),
+        Source::Given(input, size) => free_from(
+            input,
+            streams::name_of(&path, size),
+            output,
+            errors,
+        ),
     }
 }
 
@@ -153,14 +168,7 @@ fn split_received(
     say(&text, said, output, errors);
 }
 
-pub fn split_from(
-    input: i32,
-    name: &[u8],
-    period: u32,
-    offset: u32,
-    output: i32,
-    errors: i32,
-) {
+pub fn split_from(input: i32, name: &[u8], period: u32, offset: u32, output: i32, errors: i32) {
     let mut bytes = [0u8; MAX_BYTES + 1];
     match streams::receive(input, name, &mut bytes, errors) {
         Got::Nothing => {}
@@ -185,7 +193,12 @@ pub fn split_at(output: i32, errors: i32) {
         Source::Nothing => {}
         Source::Help => split_usage(output, errors),
         Source::Misused => split_usage(errors, errors),
-        Source::Given(input, size) => split_given(input, streams::name_of(&path, size), output, errors),
+        Source::Given(input, size) => split_given(
+            input,
+            streams::name_of(&path, size),
+            output,
+            errors,
+        ),
     }
 }
 
@@ -248,15 +261,7 @@ pub fn check_from(
     let mut bytes = [0u8; MAX_BYTES + 1];
     match streams::receive(input, name, &mut bytes, errors) {
         Got::Nothing => {}
-        Got::Bytes(got) => check_read(
-            &bytes,
-            got,
-            period,
-            timings,
-            timings_name,
-            output,
-            errors,
-        ),
+        Got::Bytes(got) => check_read(&bytes, got, period, timings, timings_name, output, errors),
     }
 }
 
@@ -292,6 +297,11 @@ pub fn check_schedule(output: i32, errors: i32) {
         Source::Nothing => {}
         Source::Help => check_usage(output, errors),
         Source::Misused => check_usage(errors, errors),
-        Source::Given(input, size) => check_given(input, streams::name_of(&path, size), output, errors),
+        Source::Given(input, size) => check_given(
+            input,
+            streams::name_of(&path, size),
+            output,
+            errors,
+        ),
     }
 }

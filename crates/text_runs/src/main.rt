@@ -1,0 +1,94 @@
+// The programs on what they refuse or find wrong: texts that are empty, faulty, cut at the end of a line, or name register 2 of 2; lists
+// that are refused; no split; schedules that break hold and setup, are faulty, have a timing too few or one too large; periods and
+// offsets out of range; a text that is too long, a directory, output that cannot be written, and no arguments. Then a text of the
+// largest size, with commas.
+use libc::STDOUT_FILENO;
+use text_programs::check_from;
+use text_programs::make_from;
+use text_programs::split_from;
+
+fn make(name: &[u8]) {
+    make_from(os::open_read(name), name, STDOUT_FILENO, STDOUT_FILENO);
+}
+
+fn split(period: u32, offset: u32) {
+    split_from(
+        os::open_read(b"list"),
+        b"list",
+        period,
+        offset,
+        STDOUT_FILENO,
+        STDOUT_FILENO,
+    );
+}
+
+fn check(period: u32, name: &[u8]) {
+    check_from(
+        os::open_read(b"list"),
+        b"list",
+        period,
+        os::open_read(name),
+        name,
+        STDOUT_FILENO,
+        STDOUT_FILENO,
+    );
+}
+
+fn texts() {
+    make(b"empty");
+    make(b"faulty");
+    make(b"words");
+    make(b"three");
+    make(b"cut");
+    make(b"register");
+    make(b"long");
+    make(b".");
+}
+
+fn lists() {
+    text_programs::show_from(
+        os::open_read(b"list"),
+        b"list",
+        STDOUT_FILENO,
+        STDOUT_FILENO,
+    );
+    text_programs::show_from(
+        os::open_read(b"refused"),
+        b"refused",
+        STDOUT_FILENO,
+        STDOUT_FILENO,
+    );
+    text_programs::free_from(
+        os::open_read(b"refused"),
+        b"refused",
+        STDOUT_FILENO,
+        STDOUT_FILENO,
+    );
+    text_programs::free_from(
+        os::open_read(b"list"),
+        b"list",
+        os::open_read(b"list"),
+        STDOUT_FILENO,
+    );
+    split(6, 4);
+    split(0, 4);
+    split(7, 1_000_001);
+}
+
+fn schedules() {
+    check(7, b"late");
+    check(7, b"wide");
+    check(7, b"word");
+    check(7, b"few");
+    check(7, b"high");
+    check(1_000_001, b"wide");
+}
+
+fn main() {
+    texts();
+    lists();
+    schedules();
+    text_programs::split_at(STDOUT_FILENO, STDOUT_FILENO);
+    text_programs::check_schedule(STDOUT_FILENO, STDOUT_FILENO);
+    make(b"largest");
+}
