@@ -26,7 +26,7 @@ ruleWidth = 14
 abbrev pub registersWidth : ℕ
 registersWidth = 7 + numberWidth + (8 + numberWidth)
 
--- places enough for any line: that of a refusal is the longest
+-- places enough for any line: that of a fault is the longest
 abbrev pub linePlaces : ℕ
 linePlaces = lineWidth
 

@@ -21,7 +21,7 @@ use text_pieces::put_bytes;
 use text_pieces::put_named;
 use timing::MAX_PERIOD;
 
-// Places enough for any line: that of a refusal is the longest.
+// Places enough for any line: that of a fault is the longest.
 pub const TEXT_PLACES: usize = refusal_text::LINE_WIDTH;
 
 fn put_rule(text: &mut [u8], at: usize, rule: Rule) -> usize

@@ -23,9 +23,9 @@ use Rattle.list_format.proofs.ReadBack.{count-is, number-at, read-back}
 use Rattle.text_pieces.specs.Pieces.{number, space, newline}
 use Rattle.text_pieces.proofs.DecimalLaws.{decimal-few}
 use Rattle.scan.specs.declared.State.{State}
-use Rattle.scan.specs.declared.Scanned.the-variants.{Numbers, Faulty}
+use Rattle.scan.specs.declared.Scanned.the-variants.{Numbers}
 use Rattle.scan.specs.Scan.{maxNumbers, maxValue, textBytes, start, isSecond, numberEnded, lineFault, finished}
-use Rattle.scan.specs.Scan.{kept, after, ended, last, scannedNumbers, markSize, scanned, storedOf}
+use Rattle.scan.specs.Scan.{kept, after, last, markSize, scanned, storedOf}
 use Rattle.scan.proofs.CaseLaws.{end-kept, finish-ends, blank-line, pair-line}
 use Rattle.scan.proofs.ScanLaws.{no-mark}
 use Rattle.scan.proofs.ReadsLaws.{Reads, reads-none, reads-then, at, reads-space, reads-newline, reads-promise, not-second}

@@ -4,16 +4,12 @@ use mathlib.Core.Bool.{Bool, true, false, cond}
 use mathlib.Core.List.{List, [], _∷_, _++_, append-nil}
 use mathlib.Core.Path.{_≡_, refl, sym, _∙_, ap}
 use native.Mathlib.Omega.{arith}
-use native.Mathlib.Nat.{add-zero, mul-zero, mul-suc}
-use native.Mathlib.Numerals.{add-one}
 use lib.Dec.{ltb, eqb}
-use lib.ListN.{length}
 use borrow.Author.Tests.{ltb-true, ltb-false, lt-ltb, le-ltb, ne-eqb}
-use Rattle.buffers.specs.Run.{run}
 use Rattle.text_pieces.specs.Pieces.{zeroByte, digit, decimal, number, space, newline}
 use Rattle.text_pieces.proofs.DecimalLaws.{decimal-one, decimal-more}
 use Rattle.scan.specs.declared.State.{State}
-use Rattle.scan.specs.Scan.{maxNumbers, maxValue, isBlank, withDigit, isSecond, numberEnded, lineFault, lineEnded, stepInLine, step, kept, after, ended}
+use Rattle.scan.specs.Scan.{maxNumbers, maxValue, isBlank, withDigit, isSecond, numberEnded, lineFault, lineEnded, step, kept, after, ended}
 use Rattle.scan.proofs.CaseLaws.{digit-more, ended-second, ended-next, line-next, in-blank, in-digit, step-newline, step-line}
 use Rattle.scan.proofs.ScanLaws.{after-append, ended-append}
 

@@ -1,9 +1,9 @@
 -- Reading a text byte by byte: the state and the places after each, as the invariant `Scanning` of the loop, and what the whole
 -- text comes to.
-use Prim.Native.Nat.{ℕ, zero, suc, _+_, _-_, _≤_, _<_}
+use Prim.Native.Nat.{ℕ, suc, _+_, _-_, _≤_, _<_}
 use mathlib.Core.Bool.{Bool, true, false, cond, _&&_}
 use mathlib.Core.List.{List, [], _∷_, _++_, append-assoc, append-nil}
-use mathlib.Core.Path.{_≡_, refl, sym, _∙_, ap}
+use mathlib.Core.Path.{_≡_, refl, ap}
 use native.Mathlib.Numerals.{add-one}
 use native.Mathlib.Omega.{arith}
 use lib.Dec.{ltb, eqb}
@@ -14,10 +14,10 @@ use Rattle.buffers.specs.Over.{over}
 use Rattle.buffers.proofs.FillLaws.{Filled, filled-none, filled-put, filled-size, set-put}
 use Rattle.scan.specs.declared.State.{State}
 use Rattle.scan.specs.declared.Scanned.{Scanned}
-use Rattle.scan.specs.declared.Scanned.the-variants.{Numbers, Faulty}
+use Rattle.scan.specs.declared.Scanned.the-variants.{Numbers}
 use Rattle.scan.specs.Scan.{maxNumbers, textBytes, isBlank, start, failed, numberEnded, stepInLine, step, endFault, atEnd, finished}
-use Rattle.scan.specs.Scan.{kept, keptIn, after, ended, last, scannedNumbers, faultIndex, faultyAt, resultOf, markSize, withoutMark, scanned, storedOf}
-use Rattle.scan.specs.Scan.{Counted, TextAs, ScanAs, StateIn, ScannedTo}
+use Rattle.scan.specs.Scan.{kept, keptIn, after, ended, last, scannedNumbers, faultIndex, faultyAt, markSize, withoutMark, scanned, storedOf}
+use Rattle.scan.specs.Scan.{TextAs, ScanAs, StateIn, ScannedTo}
 use Rattle.scan.proofs.CaseLaws.{end-none, step-stays}
 use Rattle.scan.proofs.StateLaws.{Moves, Fair, fair-in, step-moves, finish-moves}
 
@@ -165,7 +165,8 @@ module _ {lined : Bool} {ts was : List ℕ} {mid now : List ℕ} {s t : State} (
   stored : now ≡ over (scannedNumbers lined ts) was
   stored = rw all (filled .is)
 
-  pub text-faulty : {r : Scanned} {i : ℕ} → (t .fault ≡ 0 → ⊥) → i ≡ faultIndex lined ts → r ≡ faultyAt (t .fault) ts i → TextAs lined ts was now r
+  pub text-faulty : {r : Scanned} {i : ℕ} → (t .fault ≡ 0 → ⊥) → i ≡ faultIndex lined ts → r ≡ faultyAt (t .fault) ts i
+      → TextAs lined ts was now r
   text-faulty wrong at a =
       record {
         answer = rw (← here, ne-eqb (t .fault) 0 wrong, ← at) a;
@@ -185,7 +186,7 @@ module _ {lined : Bool} {ts was : List ℕ} {mid now : List ℕ} {s t : State} (
 
 -- ---- the mark
 
--- whether three bytes are those of a mark, as the third of them decides or the first
+-- the bytes of a mark, by whether each of its three is there
 unfoldable markIf : Bool → Bool → Bool → ℕ
 markIf a b c = cond (a && (b && c)) 3 0
 

@@ -11,7 +11,7 @@ use Rattle.scan.specs.declared.State.{State}
 use Rattle.scan.specs.declared.Scanned.{Scanned}
 use Rattle.scan.specs.declared.Scanned.the-variants.{Numbers, Faulty}
 use Rattle.scan.specs.Scan.{maxNumbers, maxValue, textBytes, isBlank, commentByte, start, failed, withDigit, isSecond, numberEnded, lineFault}
-use Rattle.scan.specs.Scan.{lineEnded, commented, stepInLine, step, endFault, atEnd, finished, after, last, faultIndex, faultyAt, withoutMark, scanned}
+use Rattle.scan.specs.Scan.{lineEnded, stepInLine, step, endFault, atEnd, finished, after, last, faultIndex, faultyAt, withoutMark, scanned}
 
 -- not 3, 4 or 8
 pub record NoLine (fault : ℕ) : Type 0 where

@@ -2,7 +2,7 @@
 -- line is a comment; a byte order mark at the start is skipped; the last newline may be missing.
 -- In the lines of a delay list the first line with a number has one, the count of registers, or two, that and the count of pairs; each
 -- later one has four, those of a pair. Lines without a number are skipped.
-use Prim.Native.Nat.{ℕ, suc, _+_, _-_, _*_, _^_, _≤_, _<_}
+use Prim.Native.Nat.{ℕ, suc, _+_, _-_, _*_, _≤_, _<_}
 use mathlib.Core.Bool.{Bool, false, true, cond, _&&_, _||_}
 use mathlib.Core.List.{List, [], _∷_, _++_}
 use mathlib.Core.Path.{_≡_}
@@ -160,6 +160,7 @@ endFault s =
     cond (eqb (s .count) 0) 6
     (cond (eqb wrong 0) (cond (eqb (s .promised) 0) 0 (cond (eqb (s .count) (s .promised)) 0 8)) wrong)
 
+-- the end of the text, with no number begun
 unfoldable pub atEnd : State → State
 atEnd s = cond (eqb (s .fault) 0) (failed s (endFault s)) s
 
@@ -246,10 +247,11 @@ markSize bs = cond (eqb (getD bs 0 0) 239 && (eqb (getD bs 1 0) 187 && eqb (getD
 abbrev pub withoutMark : List ℕ → List ℕ
 withoutMark bs = drop (markSize bs) bs
 
--- the line of pair k of a list: that in which `4 * k + 5` numbers have ended
+-- the line of a list in which `enough` numbers have ended
 abbrev pub lineIn : ℕ → List ℕ → ℕ
 lineIn enough ts = placeOf ts (goesTo enough (start true) ts) .line
 
+-- that of pair k, whose last number is number 4 * k + 5
 abbrev pub lineOfPair : ℕ → List ℕ → ℕ
 lineOfPair k bs = lineIn (4 * k + 5) (withoutMark bs)
 

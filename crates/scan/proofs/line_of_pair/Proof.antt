@@ -1,5 +1,4 @@
 -- `line_of_pair`: the line in the part of the text after its mark.
-use native.Mathlib.Omega.{arith}
 use Rattle.scan.proofs.ScanLaws.{mark-fits, lent-is, lent-short}
 use borrow.Author.Needs.{needs}
 use Rattle.scan.proofs.line_of_pair.Statement.{statement}

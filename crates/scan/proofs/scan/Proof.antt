@@ -1,5 +1,4 @@
 -- `scan`: a text that is too long, and the part of any other after its mark. One law for each.
-use native.Mathlib.Omega.{arith}
 use Rattle.scan.proofs.ScanLaws.{scan-long, scan-short, lent-short, mark-fits}
 use borrow.Author.Needs.{needs}
 use Rattle.scan.proofs.scan.Statement.{statement}

@@ -1,7 +1,5 @@
 -- `scan_text`: a text with a fault, and one of which all numbers are stored. One law for each.
-use mathlib.Core.Path.{_≡_}
 use native.Mathlib.Omega.{arith}
-use lib.ListN.{length}
 use Rattle.scan.proofs.ScanLaws.{text-faulty, text-numbers}
 use borrow.Author.Needs.{needs}
 use Rattle.scan.proofs.scan_text.Statement.{statement}
@@ -20,7 +18,8 @@ returns c =
     let v = c .before .before in
     let w = v .before .before .before .before in
     let told = w .turn-end .ensures in
-    text-faulty (w .before .before .before .before .before .before .before .before .pre .1) (w .before .before .before .before .read-bytes .ensures) (told .0) (told .1) (v .if1 .taken)
+    let u = w .before .before .before .before in
+    text-faulty (u .before .before .before .before .pre .1) (u .read-bytes .ensures) (told .0) (told .1) (v .if1 .taken)
     (c .before .goes-to .ensures .index) (c .faulty .ensures)
 
 returns-2 : tie.Need-returns-2
@@ -32,4 +31,6 @@ returns-2 c =
 pub scan-text-spec : {M : Type 1} → statement M
 scan-text-spec =
     tie.close
-    (tie.spec (λ c κs. search needs) turn-end-requires (λ c. search needs) (λ c κs. search needs) faulty-requires (λ c. search needs) returns (λ c. search needs) returns-2)
+    (tie.spec
+    (λ c κs. search needs) turn-end-requires (λ c. search needs) (λ c κs. search needs) faulty-requires (λ c. search needs) returns
+    (λ c. search needs) returns-2)

@@ -1,5 +1,4 @@
 -- `turn`: one byte more, with the number that it ends stored; there is room, for a step counts no number too many.
-use mathlib.Core.Path.{_∙_}
 use native.Mathlib.Omega.{arith}
 use Rattle.scan.proofs.StateLaws.{step-moves, fair-in}
 use borrow.Author.Needs.{needs}

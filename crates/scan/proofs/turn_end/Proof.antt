@@ -1,5 +1,4 @@
 -- `turn_end`: the end of the text, with the number that it ends stored.
-use mathlib.Core.Path.{_∙_}
 use native.Mathlib.Omega.{arith}
 use Rattle.scan.proofs.StateLaws.{finish-moves, fair-in}
 use borrow.Author.Needs.{needs}
