@@ -118,7 +118,7 @@ int main(int argc, char **argv) {
     int status = plan(count);
     int ended = written(status);
     if (status == REFUSED && looks_like_text(count)) {
-        fputs("this looks like a text; make_list makes a list of it\n", stderr);
+        fputs("this looks like a text: make_list makes a delay list of it\n", stderr);
     }
     return ended;
 }

@@ -84,7 +84,7 @@ done
 
 # ---- a text in place of a list, and lists that are no text
 
-hint="this looks like a text; make_list makes a list of it"
+hint="this looks like a text: make_list makes a delay list of it"
 ends 1 lists/P.txt
 holds "$out" "refused 11 at 0"
 holds "$err" "$hint"

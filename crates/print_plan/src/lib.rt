@@ -6,11 +6,18 @@ use streams::Got;
 use streams::Source;
 
 fn usage(to: i32, errors: i32) {
+    streams::write_out(to, b"use: plan [FILE]\n", errors);
     streams::write_out(
         to,
-        b"use: plan [FILE]\nPrints the plan of the delay list in FILE, or on standard input: the common, the free and the two-timing period and the\noffset, then a line for each register with its number, its free timing and its two-timing value.\nmake_list makes a delay list of a text.\n",
+        b"Prints the plan of the delay list in FILE, or on standard input: the common, the free and the two-timing period and the\n",
         errors,
     );
+    streams::write_out(
+        to,
+        b"offset, then a line for each register with its number, its free timing and its two-timing value.\n",
+        errors,
+    );
+    streams::write_out(to, b"make_list makes a delay list of a text.\n", errors);
 }
 
 // A text that is given as a list is refused; then this says what to do.

@@ -5,5 +5,6 @@ use mathlib.Core.Path.{_≡_}
 use lib.ListN.{length, take}
 use lib.Seq.{take-all}
 
-pub received-cut : (bytes : List ℕ) (count most : ℕ) {r : List ℕ} → r ≡ take count bytes → most < length bytes → length bytes ≤ count → most < length r
+pub received-cut : (bytes : List ℕ) (count most : ℕ) {r : List ℕ} → r ≡ take count bytes → most < length bytes
+    → length bytes ≤ count → most < length r
 received-cut bytes count most e room full = rw (e, take-all count bytes full) room

@@ -21,9 +21,15 @@ fn say(buffer: &[u8], said: Said, output: i32, errors: i32) {
 // ---- make_list
 
 fn make_usage(to: i32, errors: i32) {
+    write_out(to, b"use: make_list [FILE]\n", errors);
     write_out(
         to,
-        b"use: make_list [FILE]\nMakes the bytes of a delay list of the text in FILE, or on standard input: in the first line the count of registers and, if\nyou like, that of pairs, then a line for each pair: launch capture least greatest. Commas count as spaces, # begins a comment.\n",
+        b"Makes the bytes of a delay list of the text in FILE, or on standard input: in the first line the count of registers and, if\n",
+        errors,
+    );
+    write_out(
+        to,
+        b"you like, that of pairs, then a line for each pair: launch capture least greatest. Commas count as spaces, # begins a comment.\n",
         errors,
     );
 }
@@ -64,9 +70,15 @@ pub fn make_list(output: i32, errors: i32) {
 // ---- show_list
 
 fn show_usage(to: i32, errors: i32) {
+    write_out(to, b"use: show_list [FILE]\n", errors);
     write_out(
         to,
-        b"use: show_list [FILE]\nWrites the delay list in FILE, or on standard input, as text: the counts of registers and of pairs, then a line for each\npair: launch capture least greatest. make_list reads it back.\n",
+        b"Writes the delay list in FILE, or on standard input, as text: the counts of registers and of pairs, then a line for each\n",
+        errors,
+    );
+    write_out(
+        to,
+        b"pair: launch capture least greatest. make_list reads it back.\n",
         errors,
     );
 }
@@ -104,11 +116,13 @@ pub fn show_list(output: i32, errors: i32) {
 // ---- free_schedule_of
 
 fn free_usage(to: i32, errors: i32) {
+    write_out(to, b"use: free_schedule_of [FILE]\n", errors);
     write_out(
         to,
-        b"use: free_schedule_of [FILE]\nPrints the common and the free period of the delay list in FILE, or on standard input, then a line for each register with\nits number and its free timing.\n",
+        b"Prints the common and the free period of the delay list in FILE, or on standard input, then a line for each register with\n",
         errors,
     );
+    write_out(to, b"its number and its free timing.\n", errors);
 }
 
 fn free_received(bytes: &[u8; MAX_BYTES + 1], got: usize, output: i32, errors: i32) {
@@ -143,9 +157,15 @@ pub fn free_schedule_of(output: i32, errors: i32) {
 // ---- split_at
 
 fn split_usage(to: i32, errors: i32) {
+    write_out(to, b"use: split_at PERIOD OFFSET [FILE]\n", errors);
     write_out(
         to,
-        b"use: split_at PERIOD OFFSET [FILE]\nPrints the first split of the delay list in FILE, or on standard input, that works at the period and the offset, in whole\npicoseconds: a line for each register with its number and its timing; or that there is none.\n",
+        b"Prints the first split of the delay list in FILE, or on standard input, that works at the period and the offset, in whole\n",
+        errors,
+    );
+    write_out(
+        to,
+        b"picoseconds: a line for each register with its number and its timing; or that there is none.\n",
         errors,
     );
 }
@@ -205,9 +225,15 @@ pub fn split_at(output: i32, errors: i32) {
 // ---- check_schedule
 
 fn check_usage(to: i32, errors: i32) {
+    write_out(to, b"use: check_schedule PERIOD TIMINGS [FILE]\n", errors);
     write_out(
         to,
-        b"use: check_schedule PERIOD TIMINGS [FILE]\nChecks the schedule in the file TIMINGS, a timing in picoseconds for each register, at the period against the delay list in\nFILE, or on standard input. Prints admissible, or the first pair that breaks a rule.\n",
+        b"Checks the schedule in the file TIMINGS, a timing in picoseconds for each register, at the period against the delay list in\n",
+        errors,
+    );
+    write_out(
+        to,
+        b"FILE, or on standard input. Prints admissible, or the first pair that breaks a rule.\n",
         errors,
     );
 }

@@ -8,4 +8,5 @@ pub registers-of-spec : {M : Type 1} → statement M
 registers-of-spec =
     tie.close
     (tie.spec
-    (λ c. no-registers (c .before .before .args .words .now) (c .if1 .taken)) (λ c. search needs) (λ c κs. search needs) (λ c. search needs) (λ c. search needs))
+    (λ c. no-registers (c .before .before .args .words .now) (c .if1 .taken))
+    (λ c. search needs) (λ c κs. search needs) (λ c. search needs) (λ c. search needs))

@@ -11,8 +11,31 @@ others : tie.Need-returns-13
 unfolding meaning
 others c =
     let r = c .before .before .before .before .before .match .rest in
-    others-said meanings _ (c .before .before .before .before .before .before .before .args .number)
-    (r .0 .0 .0 .0 .0 .0 .0 .0 .0 .0 .0 .1, (r .0 .0 .0 .0 .0 .0 .0 .0 .0 .0 .1, (r .0 .0 .0 .0 .0 .0 .0 .0 .0 .1, (r .0 .0 .0 .0 .0 .0 .0 .0 .1, (r .0 .0 .0 .0 .0 .0 .0 .1, (r .0 .0 .0 .0 .0 .0 .1, (r .0 .0 .0 .0 .0 .1, (r .0 .0 .0 .0 .1, (r .0 .0 .0 .1, (r .0 .0 .1, (r .0 .1, (r .1, tt))))))))))))
+    others-said meanings _ (c .before .before .before .before .before .before .before .args .number) (
+      r .0 .0 .0 .0 .0 .0 .0 .0 .0 .0 .0 .1,
+      (
+        r .0 .0 .0 .0 .0 .0 .0 .0 .0 .0 .1,
+        (
+          r .0 .0 .0 .0 .0 .0 .0 .0 .0 .1,
+          (
+            r .0 .0 .0 .0 .0 .0 .0 .0 .1,
+            (
+              r .0 .0 .0 .0 .0 .0 .0 .1,
+              (
+                r .0 .0 .0 .0 .0 .0 .1,
+                (
+                  r .0 .0 .0 .0 .0 .1,
+                  (
+                    r .0 .0 .0 .0 .1,
+                    (r .0 .0 .0 .1, (r .0 .0 .1, (r .0 .1, (r .1, tt)))),
+                  ),
+                ),
+              ),
+            ),
+          ),
+        ),
+      ),
+    )
     (c .before .before .put-bytes13 .ensures) (omega arith)
 
 pub put-meaning-spec : {M : Type 1} → statement M

@@ -19,4 +19,5 @@ store-spec =
     tie.close
     (tie.spec
     Inv-loop μ-loop (λ c. search needs) (λ c κs. search needs) (λ c κs. search needs) (λ c. search needs)
-    (λ c. omega arith) (λ c. c .before .before .put-at .kept .0 ∙ c .before .before .before .before .before .before .loop .inv) (λ c. search needs) (λ c. search needs))
+    (λ c. omega arith)
+    (λ c. c .before .before .put-at .kept .0 ∙ c .before .before .before .before .before .before .loop .inv) (λ c. search needs) (λ c. search needs))
