@@ -34,33 +34,27 @@ reads-one : {s t : State} {byte : ℕ} {xs : List ℕ} → step s byte ≡ t →
 unfolding after ended
 reads-one {s} {t} {byte} {xs} e k = record { state = e; numbers = rw (e, append-nil) k }
 
--- between two numbers
-abbrev pub at : Bool → ℕ → ℕ → ℕ → State
-at lined first count promised =
+-- in a number with the value v so far, or not
+abbrev on : Bool → ℕ → ℕ → ℕ → Bool → ℕ → State
+on lined first count promised inside v =
     record {
       lined = lined;
       first = first;
       count = count;
       promised = promised;
-      inside = false;
-      value = 0;
-      comment = false;
-      fault = 0;
-    }
-
--- in a number
-abbrev pub within : Bool → ℕ → ℕ → ℕ → ℕ → State
-within lined first count promised v =
-    record {
-      lined = lined;
-      first = first;
-      count = count;
-      promised = promised;
-      inside = true;
+      inside = inside;
       value = v;
       comment = false;
       fault = 0;
     }
+
+-- between two numbers
+abbrev pub at : Bool → ℕ → ℕ → ℕ → State
+at lined first count promised = on lined first count promised false 0
+
+-- in a number
+abbrev pub within : Bool → ℕ → ℕ → ℕ → ℕ → State
+within lined first count promised v = on lined first count promised true v
 
 kept-same : (s t : State) → s .count ≡ t .count → kept s t ≡ []
 unfolding kept
@@ -83,27 +77,9 @@ digit-blank d = rw (
 module _ (lined : Bool) (first count promised : ℕ) where
   -- a digit, as the first one or as a later one
   one-digit : (inside : Bool) (v d w : ℕ) → d < 10 → 10 * v + d ≡ w → w ≤ maxValue
-      → Reads (record {
-        lined = lined;
-        first = first;
-        count = count;
-        promised = promised;
-        inside = inside;
-        value = v;
-        comment = false;
-        fault = 0;
-      }) (digit d ∷ []) [] (within lined first count promised w)
+      → Reads (on lined first count promised inside v) (digit d ∷ []) [] (within lined first count promised w)
   one-digit inside v d w h e l =
-      let s : State = record {
-        lined = lined;
-        first = first;
-        count = count;
-        promised = promised;
-        inside = inside;
-        value = v;
-        comment = false;
-        fault = 0;
-      } in
+      let s : State = on lined first count promised inside v in
       let small : zeroByte + d - zeroByte ≡ d = omega arith in
       let read = in-digit s (digit d) (digit-blank d) (λ z. omega arith) (omega arith) (omega arith) in
       let goes : withDigit s d ≡ step s (digit d) = rw small at read ∙ step-line s (digit d) refl (λ z. omega arith) refl in
