@@ -1,18 +1,28 @@
--- What bytes look like, by the first of them.
-use Prim.Native.Nat.{ℕ}
-use mathlib.Core.Bool.{false}
-use mathlib.Core.List.{List, [], _∷_}
-use mathlib.Core.Path.{_≡_, refl}
-use native.Mathlib.Omega.{arith}
+-- What bytes look like, by three of them and how many there are.
+use Prim.Native.Nat.{ℕ, _≤_, _<_}
+use mathlib.Core.Bool.{Bool, true, false, not}
+use mathlib.Core.List.{List}
+use mathlib.Core.Path.{_≡_}
+use lib.Dec.{ltb, leb}
 use lib.ListN.{length, getD}
+use borrow.Author.Tests.{not-true, not-false, lt-ltb, le-ltb, le-leb, lt-leb}
 use Rattle.list_bytes.specs.ListBytes.{textByte, looksLikeText}
 
-pub looks-none : (bs : List ℕ) → length bs ≡ 0 → false ≡ looksLikeText bs
-unfolding looksLikeText
-looks-none [] e = refl
-looks-none (b ∷ bs) e = absurd (omega arith)
+module _ (bs : List ℕ) {x : ℕ} {t : Bool} (ex : x ≡ getD bs 0 0) (et : t ≡ textByte x) where
+  pub not-begun : not t ≡ true → false ≡ looksLikeText bs
+  unfolding looksLikeText
+  not-begun e = rw (← ex, ← et, not-true t e)
 
-pub looks-first : (bs : List ℕ) → (length bs ≡ 0 → ⊥) → textByte (getD bs 0 0) ≡ looksLikeText bs
-unfolding looksLikeText
-looks-first [] e = absurd (e refl)
-looks-first (b ∷ bs) e = refl
+  module _ (e : not t ≡ false) where
+    pub begun-short : length bs < 8 → true ≡ looksLikeText bs
+    unfolding looksLikeText
+    begun-short h = rw (← ex, ← et, not-false t e, lt-ltb (length bs) 8 h)
+
+    module _ (h : 8 ≤ length bs) {y : ℕ} (ey : y ≡ getD bs 6 0) where
+      pub as-a-list : y < 9 → false ≡ looksLikeText bs
+      unfolding looksLikeText
+      as-a-list l = rw (← ex, ← et, not-false t e, le-ltb (length bs) 8 h, ← ey, lt-leb 9 y l)
+
+      pub by-eighth : 9 ≤ y → {z : ℕ} → z ≡ getD bs 7 0 → ltb z 128 ≡ looksLikeText bs
+      unfolding looksLikeText
+      by-eighth l ez = rw (← ex, ← et, not-false t e, le-ltb (length bs) 8 h, ← ey, le-leb 9 y l, ← ez)

@@ -1,10 +1,10 @@
 -- The words of a delay list that came as bytes.
 use Prim.Native.Nat.{ℕ, _+_, _*_, _/_, _%_}
-use mathlib.Core.Bool.{Bool, true, false, _||_, cond}
-use mathlib.Core.List.{List, [], _∷_}
+use mathlib.Core.Bool.{Bool, true, _&&_, _||_, cond}
+use mathlib.Core.List.{List, []}
 use mathlib.Core.Path.{_≡_}
-use lib.Dec.{ltb, eqb}
-use lib.ListN.{length}
+use lib.Dec.{ltb, leb, eqb}
+use lib.ListN.{length, getD}
 use Rattle.timing.specs.Limits.{maxPairs}
 use Rattle.buffers.specs.Over.{over}
 use Rattle.words.specs.Bytes.{toWords}
@@ -36,6 +36,7 @@ blankByte b = eqb b 9 || (eqb b 10 || (eqb b 13 || (eqb b 32 || (eqb b 35 || eqb
 unfoldable pub textByte : ℕ → Bool
 textByte b = cond (ltb b 48) (blankByte b) (cond (ltb 57 b) (eqb b 239) true)
 
+-- bytes that begin as a text does, and not as a list: there the seventh byte, of the first pair, is below 9, or the eighth, of the end
+-- word, is 224 or more
 unfoldable pub looksLikeText : List ℕ → Bool
-looksLikeText [] = false
-looksLikeText (b ∷ bs) = textByte b
+looksLikeText bs = textByte (getD bs 0 0) && cond (ltb (length bs) 8) true (leb 9 (getD bs 6 0) && ltb (getD bs 7 0) 128)

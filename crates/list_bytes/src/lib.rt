@@ -1,6 +1,7 @@
 // The words of a delay list that came as bytes, four to a word.
 // The contract cites `specs/ListBytes.antt`.
 ghost use mathlib.Core.Path.{_≡_};
+ghost use lib.ListN.{getD};
 ghost use Rattle.list_bytes.specs.ListBytes.{LoadedAs, blankByte, textByte, looksLikeText};
 use timing::MAX_PAIRS;
 
@@ -51,12 +52,25 @@ fn is_text_byte(byte: u8) -> bool
     if byte > b'9' { byte == 0xEF } else { true }
 }
 
+// Byte i, or 0 where there is none.
+fn byte_at(bytes: &[u8], i: usize) -> u8
+    ensures { λ r. ⌜ r ≡ getD (now (bytes .entry)) i 0 ⌝ }
+{
+    if i < bytes.len() { bytes[i] } else { 0 }
+}
+
 // Whether bytes that are refused as a list look like the text of one.
 pub fn looks_like_text(bytes: &[u8]) -> bool
     ensures { λ r. ⌜ r ≡ looksLikeText (now (bytes .entry)) ⌝ }
 {
-    if bytes.len() == 0 {
+    if !is_text_byte(byte_at(bytes, 0)) {
         return false;
     }
-    is_text_byte(bytes[0])
+    if bytes.len() < 8 {
+        return true;
+    }
+    if byte_at(bytes, 6) < 9 {
+        return false;
+    }
+    byte_at(bytes, 7) < 128
 }
