@@ -71,12 +71,12 @@ fn meanings() -> Vec<(u32, String)> {
     rows.lines().filter_map(row).collect()
 }
 
-/// The programs say "a buffer" for 1 and 2; here it is known which.
+/// The programs say "a buffer" for 1 and 2; here it is known which. The rows from 31 on are the causes of a 3, which they know.
 #[test]
 fn the_words_of_the_programs() {
     let rows = meanings();
     assert!(rows.len() >= 8, "{rows:?}");
-    for (number, words) in rows.into_iter().filter(|(number, _)| *number > 2) {
+    for (number, words) in rows.into_iter().filter(|(number, _)| (3..31).contains(number)) {
         assert_eq!(Refusal { number, place: 0 }.meaning(), words);
     }
 }
