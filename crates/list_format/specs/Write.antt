@@ -12,7 +12,7 @@ use Rattle.words.specs.Word.{registerBits, payloadBits, headWord, needsWord, pa
 use Rattle.buffers.specs.Run.{run}
 use Rattle.refusals.specs.Checks.{Check, eachCheck}
 use Rattle.refusals.specs.Reply.{Reply, refusal, numbers, Outcome, done, answered}
-use Rattle.list_format.specs.Lists.{placeBy, differ, noNeeds, valueChecks, WrittenIn}
+use Rattle.list_format.specs.Lists.{placeBy, differ, noNeeds, valueChecks, NeedsIn, WrittenIn}
 use Rattle.list_format.specs.declared.Writing.{Writing}
 use Rattle.list_format.specs.declared.Writing.the-variants.{Written, Refused}
 
@@ -100,11 +100,6 @@ givenBody n xs ys m room = eachCheck (givenNeedChecks ys) 0 n ++ givenPairs n xs
 
 abbrev pub writeChecks : ℕ → List ℕ → List ℕ → ℕ → List Check
 writeChecks n xs ys room = countChecks n (length xs) (length ys) ++ givenBody n xs ys (givenCount xs) room
-
--- the needs of a register
-pub record NeedsIn (hold setup : ℕ) : Type 0 where
-  pub hold : hold ≤ maxNeed
-  pub setup : setup ≤ maxNeed
 
 -- what the checks leave: as many numbers as four a pair and two a register, counts and values in range
 pub record GivenIn (n : ℕ) (xs ys : List ℕ) : Type 0 where

@@ -1,0 +1,114 @@
+-- Needs that are all 0, and the needs that the words of a list say.
+use Prim.Native.Nat.{ℕ, zero, suc, _+_, _*_, _<_, _≤_}
+use mathlib.Core.Bool.{Bool, true, false, cond, _&&_}
+use mathlib.Core.List.{List, [], _∷_, _++_}
+use mathlib.Core.Logic.{_⊎_, inl, inr}
+use mathlib.Core.Path.{_≡_, refl, sym, _∙_, ap}
+use native.Mathlib.Nat.{eq-or-lt-of-le, le-of-suc-le-suc}
+use native.Mathlib.Omega.{arith}
+use lib.Dec.{eqb}
+use lib.ListN.{length, getD}
+use borrow.Author.Tests.{eqb-true, eq-eqb, ne-eqb, lt-ltb, le-ltb}
+use Rattle.timing.proofs.RuleLaws.{and-true}
+use Rattle.words.specs.Word.{kindNeeds, kindOf, holdOf, setupOf, headRegisters}
+use Rattle.buffers.specs.Run.{run}
+use Rattle.buffers.proofs.RunLaws.{run-length, run-at}
+use Rattle.list_format.specs.Lists.{word, registers, needWordsBy, needWords, holdAt, setupAt, twoAt, needsOf, noNeeds}
+
+-- ---- all needs are 0, or one is not
+
+and-false : (a : Bool) {b : Bool} → b ≡ false → a && b ≡ false
+and-false true e = e
+and-false false e = refl
+
+pub none-needed : (xs : List ℕ) → ((i : ℕ) → i < length xs → getD xs i 0 ≡ 0) → noNeeds xs ≡ true
+unfolding noNeeds
+none-needed [] h = refl
+none-needed (x ∷ xs) h = rw (eq-eqb x 0 (h 0 (omega arith))) (none-needed xs (λ i l. h (suc i) (omega arith)))
+
+pub some-needed : (xs : List ℕ) (i : ℕ) → (getD xs i 0 ≡ 0 → ⊥) → noNeeds xs ≡ false
+unfolding noNeeds
+some-needed [] i h = absurd (h refl)
+some-needed (x ∷ xs) zero h = rw (ne-eqb x 0 h)
+some-needed (x ∷ xs) (suc i) h = and-false (eqb x 0) (some-needed xs i h)
+
+-- and back: every one is 0
+pub need-zero : (xs : List ℕ) → noNeeds xs ≡ true → (i : ℕ) → getD xs i 0 ≡ 0
+unfolding noNeeds
+need-zero [] e i = refl
+need-zero (x ∷ xs) e zero = eqb-true x 0 (and-true (eqb x 0) (noNeeds xs) e .0)
+need-zero (x ∷ xs) e (suc i) = need-zero xs (and-true (eqb x 0) (noNeeds xs) e .1) i
+
+-- stretch by stretch
+needs-append : (xs ys : List ℕ) → noNeeds (xs ++ ys) ≡ noNeeds xs && noNeeds ys
+unfolding noNeeds
+needs-append [] ys = refl
+needs-append (x ∷ xs) ys = go (eqb x 0) (needs-append xs ys)
+  where
+    go : (first : Bool) → noNeeds (xs ++ ys) ≡ noNeeds xs && noNeeds ys → first && noNeeds (xs ++ ys) ≡ (first && noNeeds xs) && noNeeds ys
+    go true e = e
+    go false e = refl
+
+module _ (f : ℕ → List ℕ) where
+  pub none-more : (k : ℕ) → noNeeds (run f k) ≡ true → noNeeds (f k) ≡ true → noNeeds (run f (suc k)) ≡ true
+  unfolding run
+  none-more k e h = rw (needs-append (run f k) (f k), e) h
+
+  pub none-each : (k : ℕ) → ((i : ℕ) → i < k → noNeeds (f i) ≡ true) → noNeeds (run f k) ≡ true
+  unfolding run noNeeds
+  none-each zero h = refl
+  none-each (suc k) h = none-more k (none-each k (λ i l. h i (omega arith))) (h k (omega arith))
+
+  pub some-one : (k i : ℕ) → i < k → noNeeds (f i) ≡ false → noNeeds (run f k) ≡ false
+  unfolding run
+  some-one zero i l h = absurd (omega arith)
+  some-one (suc k) i l h = needs-append (run f k) (f k) ∙ go (eq-or-lt-of-le (le-of-suc-le-suc l)) (λ b. some-one k i b h)
+    where
+      go : (i ≡ k) ⊎ (i < k) → (i < k → noNeeds (run f k) ≡ false) → noNeeds (run f k) && noNeeds (f k) ≡ false
+      go (inl e) before = and-false (noNeeds (run f k)) (rw (← e) h)
+      go (inr b) before = rw (before b)
+
+-- ---- the words of needs
+
+module _ (ws : List ℕ) where
+  -- there is one for each register, or none
+  pub needs-all : 0 < needWords ws → needWords ws ≡ registers ws
+  unfolding needWordsBy
+  needs-all = go (eqb (kindOf (word ws 1)) kindNeeds)
+    where
+      go : (is : Bool) → 0 < cond is (registers ws) 0 → cond is (registers ws) 0 ≡ registers ws
+      go true h = refl
+      go false h = absurd (omega arith)
+
+  module _ {r : ℕ} where
+    pub hold-at : r < needWords ws → holdAt ws r ≡ holdOf (word ws (1 + r))
+    unfolding holdAt
+    hold-at h = rw (lt-ltb r (needWords ws) h)
+
+    pub hold-none : needWords ws ≤ r → holdAt ws r ≡ 0
+    unfolding holdAt
+    hold-none h = rw (le-ltb r (needWords ws) h)
+
+    pub setup-at : r < needWords ws → setupAt ws r ≡ setupOf (word ws (1 + r))
+    unfolding setupAt
+    setup-at h = rw (lt-ltb r (needWords ws) h)
+
+    pub setup-none : needWords ws ≤ r → setupAt ws r ≡ 0
+    unfolding setupAt
+    setup-none h = rw (le-ltb r (needWords ws) h)
+
+  -- two numbers for each register
+  pub needs-length : length (needsOf ws) ≡ 2 * registers ws
+  needs-length = run-length (twoAt ws) 2 (λ r. refl) (registers ws)
+
+  pub need-at : (r : ℕ) → r < registers ws → (j : ℕ) → j < 2 → getD (needsOf ws) (2 * r + j) 0 ≡ getD (twoAt ws r) j 0
+  need-at r h j b = run-at (twoAt ws) 2 (λ i. refl) (registers ws) r j h b
+
+  -- without words of needs all are 0
+  pub needs-none : needWords ws ≡ 0 → noNeeds (needsOf ws) ≡ true
+  needs-none e = none-each (twoAt ws) (registers ws) (λ r h. none-needed (twoAt ws r) (each r))
+    where
+      each : (r i : ℕ) → i < 2 → getD (twoAt ws r) i 0 ≡ 0
+      each r zero l = hold-none (omega arith)
+      each r (suc zero) l = setup-none (omega arith)
+      each r (suc (suc i)) l = refl
