@@ -20,7 +20,7 @@ use Rattle.refusals.specs.declared.Fault.the-variants.{None, At}
 use Rattle.refusals.proofs.CheckLaws.{stop-first, pass-first, both-pass, pass-both, passed, passes, each-of, all-of}
 use Rattle.refusals.proofs.ReplyLaws.{numbers-none}
 use Rattle.list_format.specs.Lists.{word, registers, pairCount, needWordsBy, needWords, holdAt, setupAt, needsOf, placeBy, pairPlace, writtenAt}
-use Rattle.list_format.specs.Lists.{pairAt, pairsFrom, pairs, placeOf, noNeeds}
+use Rattle.list_format.specs.Lists.{countingNeeds, pairAt, pairsFrom, pairs, placeOf, noNeeds}
 use Rattle.list_format.specs.Lists.{differ, headChecks, needChecks, blockChecks, kindChecks, valueChecks, pairChecks, endChecks, pairsChecks}
 use Rattle.list_format.specs.Lists.{bodyChecks, listChecks}
 use Rattle.list_format.specs.Lists.{judged, verdict, NeedsIn, ValuesIn, WrittenIn, IsAccepted, AcceptedList, PairIn, IsWritten, IsPair}
@@ -289,6 +289,11 @@ module _ (ws : List ℕ) where
         same = refl;
         values = record { launch = v .launch; capture = v .capture; order = omega (arith, v .order); limit = omega (arith, v .limit, s) };
       }
+
+  -- with its needs counted in it is the pair of the jobs
+  pub is-counted : (k : ℕ) → PairIn ws k → {p : Pair} → IsWritten ws k p → IsPair ws k (countingNeeds ws p)
+  unfolding pairAt
+  is-counted k p w = rw (w .same) (is-pair k p)
 
   -- a property of each pair of the list
   each-from : (P : Pair → Type 0) (k left : ℕ) → ((i : ℕ) → i < k + left → P (pairAt ws i)) → Each P (pairsFrom ws k left)

@@ -1,19 +1,21 @@
 -- Needs that are all 0, and the needs that the words of a list say.
-use Prim.Native.Nat.{ℕ, zero, suc, _+_, _*_, _<_, _≤_}
+use Prim.Native.Nat.{ℕ, zero, suc, _+_, _-_, _*_, _^_, _<_, _≤_}
 use mathlib.Core.Bool.{Bool, true, false, cond, _&&_}
 use mathlib.Core.List.{List, [], _∷_, _++_}
 use mathlib.Core.Logic.{_⊎_, inl, inr}
 use mathlib.Core.Path.{_≡_, refl, sym, _∙_, ap}
 use native.Mathlib.Nat.{eq-or-lt-of-le, le-of-suc-le-suc}
+use native.Mathlib.Numerals.{add-one}
 use native.Mathlib.Omega.{arith}
 use lib.Dec.{eqb}
 use lib.ListN.{length, getD}
 use borrow.Author.Tests.{eqb-true, eq-eqb, ne-eqb, lt-ltb, le-ltb}
+use Rattle.timing.specs.declared.Pair.{Pair}
 use Rattle.timing.proofs.RuleLaws.{and-true}
-use Rattle.words.specs.Word.{kindNeeds, kindOf, holdOf, setupOf, headRegisters}
+use Rattle.words.specs.Word.{registerBits, kindNeeds, kindOf, holdOf, setupOf}
 use Rattle.buffers.specs.Run.{run}
 use Rattle.buffers.proofs.RunLaws.{run-length, run-at}
-use Rattle.list_format.specs.Lists.{word, registers, needWordsBy, needWords, holdAt, setupAt, twoAt, needsOf, noNeeds}
+use Rattle.list_format.specs.Lists.{word, registers, needWordsBy, needWords, holdAt, setupAt, twoAt, needsOf, counting, countingNeeds, noNeeds}
 
 -- ---- all needs are 0, or one is not
 
@@ -80,6 +82,24 @@ module _ (ws : List ℕ) where
       go true h = refl
       go false h = absurd (omega arith)
 
+  -- as many as fit the head
+  pub needs-few : needWords ws < 2 ^ registerBits
+  unfolding needWordsBy
+  needs-few = go (eqb (kindOf (word ws 1)) kindNeeds)
+    where
+      go : (is : Bool) → cond is (registers ws) 0 < 2 ^ registerBits
+      go true = omega arith
+      go false = omega arith
+
+  -- by the kind of the second word
+  pub needs-present : kindOf (word ws 1) ≡ kindNeeds → needWords ws ≡ registers ws
+  unfolding needWordsBy
+  needs-present e = rw (eq-eqb (kindOf (word ws 1)) kindNeeds e)
+
+  pub needs-absent : (kindOf (word ws 1) ≡ kindNeeds → ⊥) → needWords ws ≡ 0
+  unfolding needWordsBy
+  needs-absent h = rw (ne-eqb (kindOf (word ws 1)) kindNeeds h)
+
   module _ {r : ℕ} where
     pub hold-at : r < needWords ws → holdAt ws r ≡ holdOf (word ws (1 + r))
     unfolding holdAt
@@ -112,3 +132,53 @@ module _ (ws : List ℕ) where
       each r zero l = hold-none (omega arith)
       each r (suc zero) l = setup-none (omega arith)
       each r (suc (suc i)) l = refl
+
+  -- ---- a loop over the words of needs that looks for one that is not 0
+
+  -- the needs of the first r registers are 0
+  pub record NoneTo (needs r : ℕ) : Type 0 where
+    pub bound : r ≤ needs
+    pub none : noNeeds (run (twoAt ws) r) ≡ true
+
+  module _ {needs : ℕ} (all : needs ≡ needWords ws) where
+    pub none-start : NoneTo needs 0
+    unfolding run noNeeds
+    none-start = record { bound = omega arith; none = refl }
+
+    module _ {r : ℕ} (h : r < needs) where
+      pub none-turn : NoneTo needs r → holdOf (word ws (1 + r)) ≡ 0 → setupOf (word ws (1 + r)) ≡ 0 → NoneTo needs (r + 1)
+      unfolding noNeeds
+      none-turn t hold setup =
+          let two : noNeeds (twoAt ws r) ≡ true =
+              rw (hold-at {r = r} (omega arith), setup-at {r = r} (omega arith), eq-eqb (holdOf (word ws (1 + r))) 0 hold,
+              eq-eqb (setupOf (word ws (1 + r))) 0 setup) in
+          record { bound = omega arith; none = rw add-one (none-more (twoAt ws) r (t .none) two) }
+
+      found : (j : ℕ) → (getD (twoAt ws r) j 0 ≡ 0 → ⊥) → false ≡ noNeeds (needsOf ws)
+      found j some =
+          let below : r < registers ws = omega (arith, needs-all (omega arith)) in
+          sym (some-one (twoAt ws) (registers ws) r below (some-needed (twoAt ws r) j some))
+
+      pub found-hold : (holdOf (word ws (1 + r)) ≡ 0 → ⊥) → false ≡ noNeeds (needsOf ws)
+      found-hold some = found 0 (λ e. some (sym (hold-at {r = r} (omega arith)) ∙ e))
+
+      pub found-setup : (setupOf (word ws (1 + r)) ≡ 0 → ⊥) → false ≡ noNeeds (needsOf ws)
+      found-setup some = found 1 (λ e. some (sym (setup-at {r = r} (omega arith)) ∙ e))
+
+    pub none-end : {r : ℕ} → 0 < needs → NoneTo needs r → needs ≤ r → true ≡ noNeeds (needsOf ws)
+    none-end {r} some t l =
+        let e : r ≡ registers ws = omega (arith, t .bound, needs-all (omega arith)) in
+        sym (ap (λ k. noNeeds (run (twoAt ws) k)) (sym e) ∙ t .none)
+
+  -- ---- counted into a pair
+
+  module _ (p : Pair) where
+    pub counting-none : needWords ws ≡ 0 → p ≡ countingNeeds ws p
+    counting-none e =
+        let less : p .least - 0 ≡ p .least = omega arith in
+        let more : p .greatest + 0 ≡ p .greatest = omega arith in
+        rw (hold-none {r = p .capture} (omega arith), setup-none {r = p .capture} (omega arith), less, more)
+
+    pub counting-at : p .capture < needWords ws
+        → counting (holdOf (word ws (1 + p .capture))) (setupOf (word ws (1 + p .capture))) p ≡ countingNeeds ws p
+    counting-at h = rw (hold-at h, setup-at h)
