@@ -8,7 +8,7 @@ ghost use lib.Dec.{ltb};
 ghost use lib.ListN.{length};
 ghost use Rattle.words.specs.Word.{countBits, registerBits};
 ghost use Rattle.refusals.specs.Checks.{firstFault, faultAfter};
-ghost use Rattle.list_format.specs.Lists.{word, registers, pairCount, needWordsBy, needWords, holdAt, needsOf, placeBy, pairPlace, placeOf, pairOf};
+ghost use Rattle.list_format.specs.Lists.{word, registers, pairCount, needWordsBy, needWords, holdAt, setupAt, needsOf, placeBy, pairPlace, placeOf, pairOf};
 ghost use Rattle.list_format.specs.Lists.{countingNeeds, noNeeds, IsAccepted, PairIn, WrittenIn, IsWritten, IsPair, verdict as verdictOf};
 ghost use Rattle.list_format.specs.Lists.{headChecks, needChecks, blockChecks, kindChecks, valueChecks, pairChecks, endChecks, pairsChecks, bodyChecks};
 ghost use Rattle.list_format.specs.Walk.{nextAt, placeAfter};
@@ -135,12 +135,23 @@ fn block_fault(words: &[u32], needs: usize) -> Fault
 }
 
 // The hold need of register r: 0 where there is no word of needs for it.
-fn hold_at(words: &[u32], needs: usize, r: u32) -> u32
+pub fn hold_at(words: &[u32], needs: usize, r: u32) -> u32
     requires { ⌜ (needs ≡ needWords (now words)) × (needs < length (now words)) ⌝ }
     ensures { λ h. ⌜ h ≡ holdAt (now (words .entry)) r ⌝ }
 {
     if (r as usize) < needs {
         return words::hold(words[1 + r as usize]);
+    }
+    0
+}
+
+// The setup need of register r: 0 where there is no word of needs for it.
+pub fn setup_at(words: &[u32], needs: usize, r: u32) -> u32
+    requires { ⌜ (needs ≡ needWords (now words)) × (needs < length (now words)) ⌝ }
+    ensures { λ s. ⌜ s ≡ setupAt (now (words .entry)) r ⌝ }
+{
+    if (r as usize) < needs {
+        return words::setup(words[1 + r as usize]);
     }
     0
 }
@@ -245,6 +256,13 @@ pub fn verdict(words: &[u32]) -> Verdict
         Fault::At(number, place) => Verdict::Refused(number, place),
         Fault::None => Verdict::Accepted(n, m),
     }
+}
+
+// How many words of needs a list has.
+pub fn need_count(words: &[u32]) -> usize
+    ensures { λ r. ⌜ r ≡ needWords (now (words .entry)) ⌝ }
+{
+    need_words(word_at(words, 0), word_at(words, 1))
 }
 
 // Pair k as it is written, from its three words.
