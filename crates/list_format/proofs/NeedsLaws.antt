@@ -9,6 +9,7 @@ use native.Mathlib.Numerals.{add-one}
 use native.Mathlib.Omega.{arith}
 use lib.Dec.{eqb}
 use lib.ListN.{length, getD}
+use borrow.Author.Count.{below-more}
 use borrow.Author.Tests.{eqb-true, eq-eqb, ne-eqb, lt-ltb, le-ltb}
 use Rattle.timing.specs.declared.Pair.{Pair}
 use Rattle.timing.proofs.RuleLaws.{and-true}
@@ -40,6 +41,21 @@ unfolding noNeeds
 need-zero [] e i = refl
 need-zero (x ∷ xs) e zero = eqb-true x 0 (and-true (eqb x 0) (noNeeds xs) e .0)
 need-zero (x ∷ xs) e (suc i) = need-zero xs (and-true (eqb x 0) (noNeeds xs) e .1) i
+
+-- a loop over needs that looks for one that is not 0: the first i are
+pub record NoneBefore (xs : List ℕ) (i : ℕ) : Type 0 where
+  pub bound : i ≤ length xs
+  pub none : (j : ℕ) → j < i → getD xs j 0 ≡ 0
+
+module _ (xs : List ℕ) where
+  pub before-start : NoneBefore xs 0
+  before-start = record { bound = omega arith; none = λ j l. absurd (omega arith) }
+
+  pub before-turn : {i : ℕ} → NoneBefore xs i → i < length xs → getD xs i 0 ≡ 0 → NoneBefore xs (i + 1)
+  before-turn {i} t h e = record { bound = omega arith; none = below-more (λ j. getD xs j 0 ≡ 0) i (t .none) e }
+
+  pub before-end : {i : ℕ} → NoneBefore xs i → length xs ≤ i → true ≡ noNeeds xs
+  before-end t h = sym (none-needed xs (λ j l. t .none j (omega arith)))
 
 -- stretch by stretch
 needs-append : (xs ys : List ℕ) → noNeeds (xs ++ ys) ≡ noNeeds xs && noNeeds ys
@@ -150,8 +166,12 @@ module _ (ws : List ℕ) where
       unfolding noNeeds
       none-turn t hold setup =
           let two : noNeeds (twoAt ws r) ≡ true =
-              rw (hold-at {r = r} (omega arith), setup-at {r = r} (omega arith), eq-eqb (holdOf (word ws (1 + r))) 0 hold,
-              eq-eqb (setupOf (word ws (1 + r))) 0 setup) in
+          rw (
+            hold-at {r = r} (omega arith),
+            setup-at {r = r} (omega arith),
+            eq-eqb (holdOf (word ws (1 + r))) 0 hold,
+            eq-eqb (setupOf (word ws (1 + r))) 0 setup,
+          ) in
           record { bound = omega arith; none = rw add-one (none-more (twoAt ws) r (t .none) two) }
 
       found : (j : ℕ) → (getD (twoAt ws r) j 0 ≡ 0 → ⊥) → false ≡ noNeeds (needsOf ws)

@@ -27,7 +27,7 @@ use Rattle.refusals.proofs.CheckLaws.{both-pass, pass-both, passed, passes, eac
 use Rattle.list_format.specs.Lists.{word, registers, pairCount, needWordsBy, needWords, holdAt, setupAt, twoAt, needsOf, placeBy, pairPlace}
 use Rattle.list_format.specs.Lists.{pairOf, writtenAt, noNeeds, listChecks, NeedsIn, ValuesIn, WrittenIn}
 use Rattle.list_format.specs.Read.{fourOf, numbersOf, readPlaces, readChecks, reading}
-use Rattle.list_format.specs.Write.{givenCount, givenPair, givenHold, givenSetup, givenNeeds, FitsWords, oneOf, threeOf, openHead, openList}
+use Rattle.list_format.specs.Write.{givenCount, givenPair, givenHold, givenSetup, givenNeeds, FitsWords, NeedsFit, oneOf, threeOf, openHead, openList}
 use Rattle.list_format.specs.Write.{withEnd, wordsOf, endPlace, countChecks, givenNeedChecks, givenChecks, writeChecks, GivenIn}
 use Rattle.list_format.proofs.ListLaws.{HeadIn, NeedWordIn, KindsIn, EndIn, ListIn, same, values-in, list-pass}
 use Rattle.list_format.proofs.NeedsLaws.{need-zero, hold-at, hold-none, setup-at, setup-none}
@@ -41,6 +41,22 @@ module _ (n : ℕ) (ys : List ℕ) where
   pub given-all : noNeeds ys ≡ false → givenNeeds n ys ≡ n
   unfolding givenNeeds
   given-all e = rw e
+
+  all-needs : 0 < givenNeeds n ys → givenNeeds n ys ≡ n
+  unfolding givenNeeds
+  all-needs = go (noNeeds ys)
+    where
+      go : (none : Bool) → 0 < cond none 0 n → cond none 0 n ≡ n
+      go true h = absurd (omega arith)
+      go false h = refl
+
+  pub few-needs : givenNeeds n ys ≤ n
+  unfolding givenNeeds
+  few-needs = go (noNeeds ys)
+    where
+      go : (none : Bool) → cond none 0 n ≤ n
+      go true = omega arith
+      go false = omega arith
 
 pub given-in : (n : ℕ) (xs ys : List ℕ) (room : ℕ) → firstFault (writeChecks n xs ys room) ≡ None → GivenIn n xs ys
 given-in n xs ys room e =
@@ -98,33 +114,20 @@ module _ (n : ℕ) (xs ys : List ℕ) (g : GivenIn n xs ys) where
       ∙ ap (λ i. getD (openHead n xs ys) i 0) place
       ∙ run-at (oneOf ys) 1 (λ i. refl) (givenNeeds n ys) r 0 h (omega arith)
 
-  -- there is one for each register, or none
-  all-needs : 0 < givenNeeds n ys → givenNeeds n ys ≡ n
-  unfolding givenNeeds
-  all-needs = go (noNeeds ys)
-    where
-      go : (none : Bool) → 0 < cond none 0 n → cond none 0 n ≡ n
-      go true h = absurd (omega arith)
-      go false h = refl
-
-  few-needs : givenNeeds n ys ≤ n
-  unfolding givenNeeds
-  few-needs = go (noNeeds ys)
-    where
-      go : (none : Bool) → cond none 0 n ≤ n
-      go true = omega arith
-      go false = omega arith
+  -- they fit their words
+  pub needs-fit : NeedsFit ys (givenNeeds n ys)
+  needs-fit r h =
+      let w = g .needs r (omega (arith, few-needs n ys)) in
+      (omega (arith, w .hold), omega (arith, w .setup))
 
   module _ (r : ℕ) (h : r < givenNeeds n ys) where
     needs-are : NeedsWordIs (givenHold ys r) (givenSetup ys r) (word (wordsOf n xs ys) (1 + r))
-    needs-are =
-        let w = g .needs r (omega (arith, few-needs)) in
-        rw (one-at r h) (needs-of-word _ _ (omega (arith, w .hold)) (omega (arith, w .setup)))
+    needs-are = rw (one-at r h) (needs-of-word _ _ (needs-fit r h .0) (needs-fit r h .1))
 
     need-word-in : NeedWordIn (word (wordsOf n xs ys) (1 + r))
     need-word-in =
         let w = needs-are in
-        record { kind = w .kind; spare = w .spare; needs = rw (w .holds, w .setups) (g .needs r (omega (arith, few-needs))) }
+        record { kind = w .kind; spare = w .spare; needs = rw (w .holds, w .setups) (g .needs r (omega (arith, few-needs n ys))) }
 
   module _ (k : ℕ) (h : k < givenCount xs) where
     first-is : word (wordsOf n xs ys) (placeBy (givenNeeds n ys) k) ≡ pairWord (givenPair xs k .launch) (givenPair xs k .capture)
@@ -184,7 +187,7 @@ module _ (n : ℕ) (xs ys : List ℕ) (g : GivenIn n xs ys) where
       go : (needs : ℕ) → givenNeeds n ys ≡ needs
           → cond (eqb (kindOf (word (wordsOf n xs ys) 1)) kindNeeds) (registers (wordsOf n xs ys)) 0 ≡ givenNeeds n ys
       go zero e = rw (ne-eqb _ kindNeeds (other-kind e)) (sym e)
-      go (suc k) e = rw (eq-eqb _ kindNeeds (needs-are 0 (omega arith) .kind)) (head-is .registers ∙ sym (all-needs (omega arith)))
+      go (suc k) e = rw (eq-eqb _ kindNeeds (needs-are 0 (omega arith) .kind)) (head-is .registers ∙ sym (all-needs n ys (omega arith)))
 
   -- pair k
   pair-is : (k : ℕ) → k < givenCount xs → writtenAt (wordsOf n xs ys) k ≡ givenPair xs k

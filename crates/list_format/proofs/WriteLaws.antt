@@ -6,23 +6,33 @@ use native.Mathlib.Omega.{arith}
 use lib.ListN.{length, take, set}
 use lib.Seq.{take-at}
 use borrow.Author.Tests.{ltb-false}
-use Rattle.words.specs.Word.{endWord, checksum}
+use Rattle.words.specs.Word.{headWord, endWord, checksum}
+use Rattle.buffers.specs.Run.{run}
 use Rattle.buffers.specs.Over.{over}
-use Rattle.buffers.proofs.FillLaws.{Filled, filled-size, filled-put, set-put}
+use Rattle.buffers.proofs.FillLaws.{Filled, filled-size, filled-put, set-put, over-more}
 use Rattle.refusals.specs.Checks.{firstFault, eachCheck}
 use Rattle.refusals.specs.Reply.{refused, done, replyOf, bufferAfter}
 use Rattle.refusals.specs.declared.Fault.the-variants.{None, At}
 use Rattle.refusals.proofs.CheckLaws.{both-pass, passed}
 use Rattle.refusals.proofs.ReplyLaws.{answered-refused, answered-done}
 use Rattle.list_format.specs.Read.{reading}
-use Rattle.list_format.specs.Write.{givenCount, openList, wordsOf, endPlace, countChecks, givenNeedChecks, givenChecks, givenPairs, givenBody}
-use Rattle.list_format.specs.Write.{writeChecks, writing, writeReply, GivenIn}
+use Rattle.list_format.specs.Write.{givenCount, givenPair, givenNeeds, oneOf, threeOf, openHead, openList, wordsOf, endPlace}
+use Rattle.list_format.specs.Write.{countChecks, givenNeedChecks, givenChecks, givenPairs, givenBody, writeChecks, writing, writeReply, GivenIn}
 use Rattle.list_format.specs.RoundTrip.{WrittenAs}
 use Rattle.list_format.specs.declared.Writing.{Writing}
 use Rattle.list_format.specs.declared.Writing.the-variants.{Written, Refused}
-use Rattle.list_format.proofs.WriteBack.{given-in, open-length, words-length, write-back}
+use Rattle.list_format.proofs.WriteBack.{given-in, head-length, open-length, words-length, write-back}
 
 module _ (n : ℕ) (xs ys was : List ℕ) where
+  -- the head with its words of needs, and then the pairs
+  pub opened-is : GivenIn n xs ys → {count m : ℕ} → count ≡ givenNeeds n ys → m ≡ givenCount xs → (head after : List ℕ)
+      → head ≡ over (headWord n m ∷ run (oneOf ys) count) was
+      → after ≡ over (take (1 + count) head ++ run (λ k. threeOf (givenPair xs k)) m) head → after ≡ over (openList n xs ys (givenCount xs)) was
+  opened-is g {count} {m} c e head after h a =
+      let front : headWord n m ∷ run (oneOf ys) count ≡ openHead n xs ys = rw (c, e) in
+      let first : head ≡ over (openHead n xs ys) was = h ∙ ap (λ ws. over ws was) front in
+      a ∙ rw (c, e) (over-more (openHead n xs ys) (run (λ k. threeOf (givenPair xs k)) (givenCount xs)) was (head-length n xs ys g) first)
+
   -- the end word closes the list
   pub closed-is : GivenIn n xs ys → endPlace n xs ys < length was → (opened after : List ℕ) → opened ≡ over (openList n xs ys (givenCount xs)) was
       → after ≡ set opened (endPlace n xs ys) (endWord (checksum (take (endPlace n xs ys) opened))) → after ≡ over (wordsOf n xs ys) was
