@@ -33,7 +33,8 @@ fn setup(numbers: &[u32], needs: &[u32], k: usize, period: u32, s: &[u32]) -> bo
     let greatest = number(numbers, k, 3);
     let a = at(s, number(numbers, k, 0) as usize);
     let b = at(s, capture as usize);
-    (a as u64) + (greatest as u64) + (setup_of(needs, capture) as u64) <= (b as u64) + (period as u64)
+    (a as u64) + (greatest as u64) + (setup_of(needs, capture) as u64)
+        <= (b as u64) + (period as u64)
 }
 
 fn hold(numbers: &[u32], needs: &[u32], k: usize, s: &[u32]) -> bool {

@@ -112,25 +112,115 @@ fn needy_pair(label: &[u8], first: u32, second: u32, least: u32, greatest: u32) 
 
 // Words of needs that pass, and those that are refused.
 pub fn needs() {
-    needy_pair(b"needs 9999: ", 0xA9C3_E70F, 0xA9C3_E70F, 0x6000_270F, 0x8000_270F);
-    needy_pair(b"hold 10000: ", 0xA000_0001, 0xA000_2710, 0x6000_2710, 0x8000_2710);
-    needy_pair(b"setup 10000: ", 0xA9C4_0000, 0xA000_2710, 0x6000_2710, 0x8000_2710);
-    needy_pair(b"needs with a spare bit: ", 0xB000_0001, 0xA000_0001, 0x6000_0007, 0x8000_000A);
-    needy_pair(b"second needs of kind 2: ", 0xA000_0001, 0x4000_0001, 0x6000_0007, 0x8000_000A);
-    needy_pair(b"second needs of kind 6: ", 0xA000_0000, 0xC000_0000, 0x6000_0007, 0x8000_000A);
-    needy_pair(b"first needs of kind 4: ", 0x8000_0001, 0xA000_0001, 0x6000_0007, 0x8000_000A);
-    needy_pair(b"needs of zeros: ", 0xA000_0000, 0xA000_0000, 0x6000_0007, 0x8000_000A);
-    needy_pair(b"needs of zeros, 4/3: ", 0xA000_0000, 0xA000_0000, 0x6000_0004, 0x8000_0003);
+    needy_pair(
+        b"needs 9999: ",
+        0xA9C3_E70F,
+        0xA9C3_E70F,
+        0x6000_270F,
+        0x8000_270F,
+    );
+    needy_pair(
+        b"hold 10000: ",
+        0xA000_0001,
+        0xA000_2710,
+        0x6000_2710,
+        0x8000_2710,
+    );
+    needy_pair(
+        b"setup 10000: ",
+        0xA9C4_0000,
+        0xA000_2710,
+        0x6000_2710,
+        0x8000_2710,
+    );
+    needy_pair(
+        b"needs with a spare bit: ",
+        0xB000_0001,
+        0xA000_0001,
+        0x6000_0007,
+        0x8000_000A,
+    );
+    needy_pair(
+        b"second needs of kind 2: ",
+        0xA000_0001,
+        0x4000_0001,
+        0x6000_0007,
+        0x8000_000A,
+    );
+    needy_pair(
+        b"second needs of kind 6: ",
+        0xA000_0000,
+        0xC000_0000,
+        0x6000_0007,
+        0x8000_000A,
+    );
+    needy_pair(
+        b"first needs of kind 4: ",
+        0x8000_0001,
+        0xA000_0001,
+        0x6000_0007,
+        0x8000_000A,
+    );
+    needy_pair(
+        b"needs of zeros: ",
+        0xA000_0000,
+        0xA000_0000,
+        0x6000_0007,
+        0x8000_000A,
+    );
+    needy_pair(
+        b"needs of zeros, 4/3: ",
+        0xA000_0000,
+        0xA000_0000,
+        0x6000_0004,
+        0x8000_0003,
+    );
 }
 
 // A least delay and the hold of the capture register; the hold of the launch register does not matter.
 pub fn holds() {
-    needy_pair(b"least 7, hold 7: ", 0xA000_0000, 0xA000_0007, 0x6000_0007, 0x8000_000A);
-    needy_pair(b"least 7, hold 8: ", 0xA000_0000, 0xA000_0008, 0x6000_0007, 0x8000_000A);
-    needy_pair(b"least 7, launch hold 8: ", 0xA000_0008, 0xA000_0000, 0x6000_0007, 0x8000_000A);
-    needy_pair(b"least 7, setup 8: ", 0xA000_0000, 0xA002_0000, 0x6000_0007, 0x8000_000A);
-    needy_pair(b"4/3, hold 8: ", 0xA000_0000, 0xA000_0008, 0x6000_0004, 0x8000_0003);
-    needy_pair(b"greatest of kind 3, hold 8: ", 0xA000_0000, 0xA000_0008, 0x6000_0007, 0x6000_000A);
+    needy_pair(
+        b"least 7, hold 7: ",
+        0xA000_0000,
+        0xA000_0007,
+        0x6000_0007,
+        0x8000_000A,
+    );
+    needy_pair(
+        b"least 7, hold 8: ",
+        0xA000_0000,
+        0xA000_0008,
+        0x6000_0007,
+        0x8000_000A,
+    );
+    needy_pair(
+        b"least 7, launch hold 8: ",
+        0xA000_0008,
+        0xA000_0000,
+        0x6000_0007,
+        0x8000_000A,
+    );
+    needy_pair(
+        b"least 7, setup 8: ",
+        0xA000_0000,
+        0xA002_0000,
+        0x6000_0007,
+        0x8000_000A,
+    );
+    needy_pair(
+        b"4/3, hold 8: ",
+        0xA000_0000,
+        0xA000_0008,
+        0x6000_0004,
+        0x8000_0003,
+    );
+    needy_pair(
+        b"greatest of kind 3, hold 8: ",
+        0xA000_0000,
+        0xA000_0008,
+        0x6000_0007,
+        0x6000_000A,
+    );
 }
 
 // Pairs that pass, and pairs that are refused.
@@ -204,15 +294,45 @@ pub fn refused_writing() {
 pub fn refused_needs() {
     let one = [0u32, 1, 7, 10];
     write(b"three needs of two registers: ", 2, &one, &[1u32, 0, 0]);
-    write(b"five needs of two registers: ", 2, &one, &[0u32, 0, 0, 0, 0]);
+    write(
+        b"five needs of two registers: ",
+        2,
+        &one,
+        &[0u32, 0, 0, 0, 0],
+    );
     write(b"no registers, three needs: ", 0, &one, &[1u32, 0, 0]);
-    write(b"needs 9999, written: ", 2, &[0u32, 1, 9_999, 9_999], &[0u32, 9_999, 9_999, 9_999]);
-    write(b"hold 10000 of register 1: ", 2, &one, &[0u32, 0, 10_000, 0]);
-    write(b"setup 10000 of register 0: ", 2, &[0u32, 2, 7, 10], &[0u32, 10_000, 10_000, 0]);
+    write(
+        b"needs 9999, written: ",
+        2,
+        &[0u32, 1, 9_999, 9_999],
+        &[0u32, 9_999, 9_999, 9_999],
+    );
+    write(
+        b"hold 10000 of register 1: ",
+        2,
+        &one,
+        &[0u32, 0, 10_000, 0],
+    );
+    write(
+        b"setup 10000 of register 0: ",
+        2,
+        &[0u32, 2, 7, 10],
+        &[0u32, 10_000, 10_000, 0],
+    );
     write(b"hold 7 and least 7: ", 2, &one, &[0u32, 0, 7, 0]);
-    write(b"hold 8 and least 7 in pair 1: ", 2, &[1u32, 0, 1, 3, 0, 1, 7, 10], &[0u32, 0, 8, 0]);
+    write(
+        b"hold 8 and least 7 in pair 1: ",
+        2,
+        &[1u32, 0, 1, 3, 0, 1, 7, 10],
+        &[0u32, 0, 8, 0],
+    );
     write(b"4/3 and hold 8: ", 2, &[0u32, 1, 4, 3], &[0u32, 0, 8, 0]);
     let three = [0u32, 1, 7, 10, 1, 0, 1, 3, 0, 0, 0, 5];
     write(b"three pairs and no needs: ", 2, &three, &[0u32, 0, 0, 0]);
-    write(b"three pairs and needs in twelve places: ", 2, &three, &[0u32, 0, 0, 1]);
+    write(
+        b"three pairs and needs in twelve places: ",
+        2,
+        &three,
+        &[0u32, 0, 0, 1],
+    );
 }

@@ -2,6 +2,7 @@
 mod examples;
 mod show;
 mod trips;
+
 use test_kit::largest;
 
 fn main() {

@@ -27,7 +27,9 @@ const LISTS: u32 = 2_000;
 // Whether a buffer holds the numbers, then the needs, and is kept behind them.
 fn holds(buffer: &[u32], numbers: &[u32], needs: &[u32]) -> bool {
     let behind = rest(buffer, numbers.len());
-    same(numbers, buffer, numbers.len()) && same(needs, behind, needs.len()) && kept(behind, needs.len())
+    same(numbers, buffer, numbers.len())
+        && same(needs, behind, needs.len())
+        && kept(behind, needs.len())
 }
 
 // Writes the list of n registers with these numbers and needs and reads it back: the same, and later places kept.
@@ -198,12 +200,7 @@ fn too_short(numbers: &[u32], needs: &[u32], short: usize) {
     let mut words = [0u32; largest::WORDS];
     let room = short % largest::WORDS;
     show::text(b"; written in one place less: ");
-    crate::show::writing(write_list::write(
-        largest::REGISTERS,
-        numbers,
-        needs,
-        &mut words[..room],
-    ));
+    crate::show::writing(write_list::write(largest::REGISTERS, numbers, needs, &mut words[..room]));
 }
 
 // The reader with one place less.

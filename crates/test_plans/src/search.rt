@@ -84,14 +84,7 @@ fn least_offset(
 }
 
 // Whether no split works at any period from 1 up to one less than this, in whole picoseconds.
-fn none_below(
-    halves: &[u32],
-    needs: &[u32],
-    n: usize,
-    m: usize,
-    period: u32,
-    s: &mut [u32],
-) -> bool
+fn none_below(halves: &[u32], needs: &[u32], n: usize, m: usize, period: u32, s: &mut [u32]) -> bool
     requires { ⌜ m ≤ maxPairs ⌝ }
 {
     let mut t: u32 = 1;
@@ -198,13 +191,7 @@ fn one(seed: u64, most: u32) -> Turn {
     );
     Turn {
         seed: random::next(next),
-        fate: right(
-            front(&words, count),
-            &numbers,
-            &needs,
-            last as usize + 1,
-            m,
-        ),
+        fate: right(front(&words, count), &numbers, &needs, last as usize + 1, m),
     }
 }
 

@@ -57,14 +57,7 @@ fn needy_free(label: &[u8], n: u32, numbers: &[u32], needs: &[u32]) {
 }
 
 // A schedule checked against a list with needs.
-fn needy_check(
-    label: &[u8],
-    n: u32,
-    numbers: &[u32],
-    needs: &[u32],
-    period: u32,
-    timings: &[u32],
-) {
+fn needy_check(label: &[u8], n: u32, numbers: &[u32], needs: &[u32], period: u32, timings: &[u32]) {
     let mut words = [0u32; 32];
     let count = needy(n, numbers, needs, &mut words);
     show::text(label);
@@ -101,9 +94,19 @@ pub fn needy_free_schedules() {
     needy_free(b"0-1 10/10, capture hold 4: ", 2, &one, &[0u32, 0, 4, 0]);
     needy_free(b"0-1 10/10, capture setup 4: ", 2, &one, &[0u32, 0, 0, 4]);
     needy_free(b"0-1 10/10, launch needs 4: ", 2, &one, &[4u32, 4, 0, 0]);
-    needy_free(b"0-0 2/5, hold 2, setup 3: ", 1, &[0u32, 0, 2, 5], &[2u32, 3]);
+    needy_free(
+        b"0-0 2/5, hold 2, setup 3: ",
+        1,
+        &[0u32, 0, 2, 5],
+        &[2u32, 3],
+    );
     needy_free(b"needs and no pairs: ", 2, &[], &[1u32, 2, 3, 4]);
-    needy_free(b"the longest: ", 2, &[0u32, 1, 1_000_000, 1_000_000], &[0u32, 0, 0, 9_999]);
+    needy_free(
+        b"the longest: ",
+        2,
+        &[0u32, 1, 1_000_000, 1_000_000],
+        &[0u32, 0, 0, 9_999],
+    );
 }
 
 // The rules of P with needs, each met by a whisker and broken by one.

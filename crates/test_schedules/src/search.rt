@@ -140,14 +140,7 @@ fn one(seed: u64, most: u32, checking: bool) -> Turn {
     }
 }
 
-fn fate(
-    numbers: &[u32],
-    needs: &[u32],
-    n: usize,
-    m: usize,
-    words: &[u32],
-    checking: bool,
-) -> u32
+fn fate(numbers: &[u32], needs: &[u32], n: usize, m: usize, words: &[u32], checking: bool) -> u32
     requires { ⌜ m ≤ maxPairs ⌝ }
 {
     let mut s = [0u32; 3];

@@ -60,9 +60,30 @@ pub fn needy_splits() {
     try_needy(b"at 10 and 6: ", 2, &p, &needs, 10, 6);
     let longest = [0u32, 1, 1_000_000, 1_000_000];
     let most = [0u32, 0, 0, 9_999];
-    try_needy(b"the longest at 9999 and 1000000: ", 2, &longest, &most, 9_999, 1_000_000);
-    try_needy(b"at 9998 and 1000000: ", 2, &longest, &most, 9_998, 1_000_000);
-    try_needy(b"at 1009999 and 1009999: ", 2, &longest, &most, 1_009_999, 1_009_999);
+    try_needy(
+        b"the longest at 9999 and 1000000: ",
+        2,
+        &longest,
+        &most,
+        9_999,
+        1_000_000,
+    );
+    try_needy(
+        b"at 9998 and 1000000: ",
+        2,
+        &longest,
+        &most,
+        9_998,
+        1_000_000,
+    );
+    try_needy(
+        b"at 1009999 and 1009999: ",
+        2,
+        &longest,
+        &most,
+        1_009_999,
+        1_009_999,
+    );
 }
 
 pub fn refusals() {

@@ -67,14 +67,7 @@ fn tried(
 }
 
 // Every offset at one period.
-fn offsets(
-    words: &[u32],
-    numbers: &[u32],
-    needs: &[u32],
-    n: usize,
-    m: usize,
-    period: u32,
-) -> bool
+fn offsets(words: &[u32], numbers: &[u32], needs: &[u32], n: usize, m: usize, period: u32) -> bool
     requires { ⌜ m ≤ maxPairs ⌝ }
     requires { ⌜ n ≤ maxRegisters ⌝ }
 {
@@ -121,13 +114,7 @@ fn one(seed: u64, most: u32) -> Turn {
     );
     Turn {
         seed: random::next(next),
-        fate: periods(
-            front(&words, count),
-            &numbers,
-            &needs,
-            last as usize + 1,
-            m,
-        ),
+        fate: periods(front(&words, count), &numbers, &needs, last as usize + 1, m),
     }
 }
 

@@ -9,7 +9,7 @@ use Rattle.test_plans.proofs.search.least_offset.Tie as tie
 
 -- the largest offset that is tried, in halves of a picosecond
 abbrev most : ℕ
-most = 20
+most = 30
 
 abbrev Inv-loop : tie.InvT-loop
 Inv-loop halves needs n m period s₀ offset₀ s offset = (offset ≤ most + 1) × (length s ≡ length s₀)
