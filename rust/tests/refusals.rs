@@ -25,15 +25,15 @@ const LINES: [(u32, &str); 12] = [
     (1, "refused 1 at 0: the scratch buffer is too short"),
     (2, "refused 2 at 0: the answer buffer is too short"),
     (3, "refused 3 at 0: period, offset or timing out of range, or not one timing for each register"),
-    (11, "refused 11 at 0: the count of words or numbers is wrong"),
+    (11, "refused 11 at 0: the count of words, of numbers or of needs is wrong"),
     (12, "refused 12 at 0: the count of registers or of pairs is out of range"),
-    (13, "refused 13 at 5: a word of the wrong kind: the list is damaged"),
+    (13, "refused 13 at 5: a word of the wrong kind, or a need above 9999 picoseconds"),
     (14, "refused 14 at 4: a register is not below the count of registers"),
     (15, "refused 15 at 6: a delay is above 1000000 picoseconds"),
     (16, "refused 16 at 6: a least delay is above its greatest"),
     (17, "refused 17 at 7: the sum at the end is wrong: the list is damaged"),
-    (18, "refused 18 at 1: words for needs that are all zero"),
-    (19, "refused 19 at 4: a least delay is below the hold need of its capture register"),
+    (18, "refused 18 at 1: all needs are zero: such a list has no words for them"),
+    (19, "refused 19 at 4: a least delay is below the hold of its capture register"),
 ];
 
 /// A plan of P with the word at a place changed, in room for two registers and two pairs.
