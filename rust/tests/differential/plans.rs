@@ -84,7 +84,7 @@ fn middle_nets_planned() {
 fn full_nets_planned() {
     let mut random = Random::new(33);
     let mut tally = Tally::default();
-    for _ in 0..800 {
+    for _ in 0..1_600 {
         let delay = random.pick(&[30, 1_000, 1_000_000]);
         let m = random.pick(&[2_048, 600, 512, 511]);
         let need = random.pick(&[30, 9_999]);

@@ -98,18 +98,18 @@ pub fn exact_net(random: &mut Random, n: usize, m: usize, delay: u32, need: u32)
     net
 }
 
-/// Needs up to `need`: none at all, of one register, holds or setups only, or both; no hold is above `delay`.
+/// Needs up to `need`: in half of all cases none at all, else of one register, holds or setups only, or both; no hold is above `delay`.
 fn needs(random: &mut Random, n: usize, delay: u32, need: u32) -> Vec<Need> {
-    let kind = random.below(6);
+    let kind = random.below(8);
     let only = random.below(n);
     let mut draw = |most: u32| if random.one_in(4) { most } else { random.upto(most) };
     let (most_hold, most_setup) = (need.min(delay), need);
     (0..n)
         .map(|r| match kind {
-            0 | 1 => Need::default(),
-            2 if r != only => Need::default(),
-            3 => Need { hold: draw(most_hold), setup: 0 },
-            4 => Need { hold: 0, setup: draw(most_setup) },
+            0..=3 => Need::default(),
+            4 if r != only => Need::default(),
+            5 => Need { hold: draw(most_hold), setup: 0 },
+            6 => Need { hold: 0, setup: draw(most_setup) },
             _ => Need { hold: draw(most_hold), setup: draw(most_setup) },
         })
         .collect()
@@ -198,14 +198,15 @@ fn damage_pair(random: &mut Random, net: &Net, words: &mut [u32]) {
     }
 }
 
-/// Another block, one that was not there, none where one was, a word of it that is none, or a hold near the least delay of a pair.
+/// A block of zeros, one that was not there, none where one was, a word of it that is none, or a least delay near the hold of its
+/// capture register.
 fn damage_needs(random: &mut Random, net: &Net, words: &mut Vec<u32>) {
     let n = net.registers();
     let at = 1 + random.below(n);
     if !net.needy() || words.len() <= n {
         return put_block(random, n, words);
     }
-    match random.below(8) {
+    match random.below(10) {
         0 => words[at] |= 1 << 28,
         1 => words[at] = words[at] & 0x1fff_ffff | random.upto(7) << 29,
         2 => words[at] = words[at] & !0x3fff | random.pick(&[9_999, 10_000, 16_383]),
@@ -213,10 +214,9 @@ fn damage_needs(random: &mut Random, net: &Net, words: &mut Vec<u32>) {
         4 => words[1..=n].fill(5 << 29),
         5 => drop(words.drain(1..=n)),
         _ => {
-            if let Some(p) = net.pairs.get(random.below(net.pairs.len() + 1)) {
-                let hold = (p.least + random.upto(2)).saturating_sub(1).min(9_999);
-                let at = 1 + p.capture;
-                words[at] = words[at] & !0x3fff | hold;
+            let k = random.below(net.pairs.len() + 1);
+            if let (Some(p), Some(least)) = (net.pairs.get(k), words.get_mut(1 + n + 3 * k + 1)) {
+                *least = 3 << 29 | (net.needs[p.capture].hold + random.upto(1)).saturating_sub(1);
             }
         }
     }
