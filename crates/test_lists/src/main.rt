@@ -3,8 +3,6 @@ mod examples;
 mod show;
 mod trips;
 
-use test_kit::largest;
-
 fn main() {
     examples::lists();
     examples::needy_lists();
@@ -21,14 +19,6 @@ fn main() {
     trips::small(b"random lists with needs: ", 0, timing::MAX_NEED);
     trips::small(b"one word changed: ", 1, timing::MAX_NEED);
     trips::small(b"two words changed, the sum kept: ", 2, timing::MAX_NEED);
-    trips::largest(
-        b"512 registers, 2048 pairs, words there and back: ",
-        0,
-        largest::PLAIN_WORDS - 1,
-    );
-    trips::largest(
-        b"the same with needs: ",
-        timing::MAX_NEED,
-        largest::WORDS - 1,
-    );
+    trips::largest(b"512 registers, 2048 pairs, words there and back: ", 0);
+    trips::largest(b"the same with needs: ", timing::MAX_NEED);
 }

@@ -173,8 +173,8 @@ pub fn small(label: &[u8], kind: u32, most: u32) {
     show::count(t.others, b" wrong\n");
 }
 
-// A list of the largest size with needs up to `most` there and back, and then with one place too few: `short` for its words.
-pub fn largest(label: &[u8], most: u32, short: usize) {
+// A list of the largest size with needs up to `most` there and back, and then with one place too few.
+pub fn largest(label: &[u8], most: u32) {
     let mut numbers = [0u32; largest::NUMBERS];
     let mut needs = [0u32; largest::NEEDS];
     let mut words = [0u32; largest::WORDS];
@@ -191,16 +191,24 @@ pub fn largest(label: &[u8], most: u32, short: usize) {
     let count = there_and_back(largest::REGISTERS, &numbers, &needs, &mut words, &mut back);
     show::text(label);
     show::number(count as u64);
-    too_short(&numbers, &needs, short);
+    too_short(&numbers, &needs, most);
     too_short_read(front(&words, count));
 }
 
-// The writer with fewer places than the largest list takes.
-fn too_short(numbers: &[u32], needs: &[u32], short: usize) {
-    let mut words = [0u32; largest::WORDS];
-    let room = short % largest::WORDS;
+// The writer with one place less than it asks for.
+fn too_short(numbers: &[u32], needs: &[u32], most: u32) {
+    let mut words = [0u32; largest::WORDS - 1];
+    let mut plain_words = [0u32; largest::PLAIN_WORDS - 1];
     show::text(b"; written in one place less: ");
-    crate::show::writing(write_list::write(largest::REGISTERS, numbers, needs, &mut words[..room]));
+    if most == 0 {
+        written(numbers, needs, &mut plain_words);
+        return;
+    }
+    written(numbers, needs, &mut words);
+}
+
+fn written(numbers: &[u32], needs: &[u32], words: &mut [u32]) {
+    crate::show::writing(write_list::write(largest::REGISTERS, numbers, needs, words));
 }
 
 // The reader with one place less.
