@@ -48,7 +48,7 @@ pub fn splits() {
     try_at(b"0-0 0/5 at 4 and 3: ", 1, &[0u32, 0, 0, 5], 4, 3);
 }
 
-// P with hold 1 and setup 2 of register 0, hold 2 and setup 1 of register 1: an offset from 3 to 3 at 8, from 1 to 5 at 10.
+// P with hold 1 and setup 2 of register 0, hold 2 and setup 1 of register 1: an offset of 3 alone at 8, of 1 to 5 at 10.
 pub fn needy_splits() {
     let p = [0u32, 1, 7, 10, 1, 0, 1, 3];
     let needs = [1u32, 2, 2, 1];
