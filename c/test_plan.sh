@@ -103,9 +103,11 @@ done
 # ---- a text in place of a list, and lists that are no text
 
 hint="this looks like a text: make_list makes a delay list of it"
-ends 1 lists/P.txt
-holds "$out" "refused 11 at 0"
-holds "$err" "$hint"
+for text in lists/P.txt lists/P-needs.txt; do
+    ends 1 "$text"
+    holds "$out" "refused 11 at 0"
+    holds "$err" "$hint"
+done
 for text in '8\n' '# a chip\n2\n' '\xef\xbb\xbf2\n0 1 7 10\n' '2\r\n0,1,7,10\r\n' '\n 2\n0 1 7 10\n '; do
     ends 1 < <(printf %b "$text")
     holds "$err" "$hint"
