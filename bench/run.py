@@ -61,7 +61,7 @@ def measured(who, file):
 class Row:
     def __init__(self, name, net, limit=None, needs=()):
         self.name, self.n, self.m = name, net[0], len(net[1])
-        self.file = WORK / f'{name}{" with needs" if needs else ""}.list'
+        self.file = WORK / f'{name}.list'
         self.file.write_bytes(lists.encode(net, needs))
         self.seconds, self.count, answer = measured('ours', self.file)
         self.common, self.free, self.two, _ = map(int, answer[:4])
@@ -139,13 +139,30 @@ class Summary:
                          f'{1 / self.least:.4f}', f'{self.share:.4f}', f'{self.total:.4f}', f'{million(self.most.count)} ({self.most.name})')
 
 
-def needy(rows):
-    """Lists with needs, each beside the same list without."""
-    head = ('list', 'registers', 'pairs', 'common', 'free', 'two', 'ours, million instructions', 'without needs', 'with / without', 'plain',
-            'plain / ours', 'ours, µs', 'plain')
-    return table(head, [table_row(r.name, r.n, r.m, r.common, r.free, r.two, million(r.count), million(without.count),
-                                  f'{r.count / without.count:.2f}', million(r.plain_count), f'{r.fewer():.0f}',
-                                  micro(r.seconds), micro(r.plain_seconds)) for r, without in rows])
+class Needy:
+    """A list with needs, beside the same list without, and the list without that asks for the same."""
+
+    def __init__(self, name, net, needs):
+        self.name = name
+        self.row = Row(name + ' with needs', net, needs=needs)
+        self.without = Row(name + ' without needs', net)
+        self.counted_in = Row(name + ' with needs counted in', lists.counted_in(net, needs))
+
+    def more(self):
+        return self.row.count / self.without.count
+
+    def more_than_counted_in(self):
+        return self.row.count / self.counted_in.count
+
+    def line(self):
+        r = self.row
+        return table_row(self.name, r.n, r.m, r.common, r.free, r.two, million(r.count), million(self.without.count), f'{self.more():.2f}',
+                         million(self.counted_in.count), f'{self.more_than_counted_in():.2f}', million(r.plain_count),
+                         f'{r.fewer():.0f}', micro(r.seconds), micro(r.plain_seconds))
+
+
+NEEDY_HEAD = ('list', 'registers', 'pairs', 'common', 'free', 'two', 'ours, million instructions', 'without needs', 'ours / that', 'counted in',
+              'ours / that', 'plain', 'plain / ours', 'ours, µs', 'plain')
 
 
 def growth(unit, rows):
@@ -182,11 +199,10 @@ def main():
     every = circuits + shapes + hard + grown + found
     more = [row for row in every if row.more() > 1]
     most_more = max(every, key=Row.more)
-    named = {row.name: row for row in every}
-    with_needs = [(Row(name, net, needs=needs), named[name]) for name, net, needs in lists.needy()]
+    with_needs = [Needy(*three) for three in lists.needy()]
     since = [row for row in every if row.since_needs() > 1]
     most_since = max(every, key=Row.since_needs)
-    most_needy = max(with_needs, key=lambda two: two[0].count / two[1].count)
+    most_needy, most_counted = max(with_needs, key=Needy.more), max(with_needs, key=Needy.more_than_counted_in)
     ones = Row('delays of 0 and 1', lists.ones(512, 2048, 14))
     few_ones = Row('delays of 0 and 1, 100 registers', lists.ones(100, 242, 14))
     faster = min(row.faster() for row in circuits + shapes if row.n >= 100)
@@ -210,9 +226,11 @@ def main():
         'HARD': table((*head, 'plain / ours', 'ours, µs', 'plain'), [row.short_line() for row in hard]),
         'FOUND': table((*head, 'plain / ours', 'ours, µs', 'plain'), [row.short_line() for row in found]),
         'BY_PAIRS': growth('pairs', by_pairs), 'BY_REGISTERS': growth('registers', by_registers),
-        'NEEDY': needy(with_needs), 'MOST_NEEDY': f'{most_needy[0].count / most_needy[1].count:.2f}', 'MOST_NEEDY_LIST': most_needy[0].name,
+        'NEEDY': table(NEEDY_HEAD, [needy.line() for needy in with_needs]),
+        'MOST_NEEDY': f'{most_needy.more():.2f}', 'MOST_NEEDY_LIST': most_needy.name,
+        'MOST_COUNTED': f'{most_counted.more_than_counted_in():.2f}', 'MOST_COUNTED_LIST': most_counted.name,
         'SINCE': len(since), 'SINCE_OF': len(every), 'MOST_SINCE': f'{most_since.since_needs():.2f}', 'MOST_SINCE_LIST': most_since.name,
-        'STACK': stack(every + [row for row, _ in with_needs]),
+        'STACK': stack(every + [needy.row for needy in with_needs]),
     }.items():
         text = text.replace('{' + key + '}', str(value))
     (ROOT / 'docs' / 'BENCHMARKS.md').write_text(text)
