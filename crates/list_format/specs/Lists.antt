@@ -182,6 +182,11 @@ judged ws (At number place) = Refused number place
 unfoldable pub verdict : List ℕ → Verdict
 verdict ws = judged ws (firstFault (listChecks ws))
 
+-- the needs of a register: hold h and setup s
+pub record NeedsIn (h s : ℕ) : Type 0 where
+  pub hold : h ≤ maxNeed
+  pub setup : s ≤ maxNeed
+
 -- the values of a pair of a list with n registers, and delays up to `most`
 pub record ValuesIn (most n : ℕ) (p : Pair) : Type 0 where
   pub launch : p .launch < n

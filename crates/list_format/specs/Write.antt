@@ -8,11 +8,11 @@ use lib.ListN.{length, getD}
 use Rattle.timing.specs.declared.Pair.{Pair}
 use Rattle.timing.specs.Rules.{pair}
 use Rattle.timing.specs.Limits.{maxRegisters, maxPairs, maxNeed}
-use Rattle.words.specs.Word.{registerBits, payloadBits, headWord, needsWord, pairWord, leastWord, greatestWord, endWord, checksum}
+use Rattle.words.specs.Word.{registerBits, payloadBits, needBits, headWord, needsWord, pairWord, leastWord, greatestWord, endWord, checksum}
 use Rattle.buffers.specs.Run.{run}
 use Rattle.refusals.specs.Checks.{Check, eachCheck}
 use Rattle.refusals.specs.Reply.{Reply, refusal, numbers, Outcome, done, answered}
-use Rattle.list_format.specs.Lists.{placeBy, differ, noNeeds, valueChecks, WrittenIn}
+use Rattle.list_format.specs.Lists.{placeBy, differ, noNeeds, valueChecks, NeedsIn, WrittenIn}
 use Rattle.list_format.specs.declared.Writing.{Writing}
 use Rattle.list_format.specs.declared.Writing.the-variants.{Written, Refused}
 
@@ -43,6 +43,14 @@ pub record FitsWords (p : Pair) : Type 0 where
   pub capture : p .capture < 2 ^ registerBits
   pub least : p .least < 2 ^ payloadBits
   pub greatest : p .greatest < 2 ^ payloadBits
+
+-- so do those of the first m pairs of the numbers
+abbrev pub PairsFit : List ℕ → ℕ → Type 0
+PairsFit xs m = (k : ℕ) → k < m → FitsWords (givenPair xs k)
+
+-- and the needs of the first so many registers
+abbrev pub NeedsFit : List ℕ → ℕ → Type 0
+NeedsFit ys needs = (r : ℕ) → r < needs → (givenHold ys r < 2 ^ needBits) × (givenSetup ys r < 2 ^ needBits)
 
 abbrev pub threeOf : Pair → List ℕ
 threeOf p = pairWord (p .launch) (p .capture) ∷ leastWord (p .least) ∷ greatestWord (p .greatest) ∷ []
@@ -100,11 +108,6 @@ givenBody n xs ys m room = eachCheck (givenNeedChecks ys) 0 n ++ givenPairs n xs
 
 abbrev pub writeChecks : ℕ → List ℕ → List ℕ → ℕ → List Check
 writeChecks n xs ys room = countChecks n (length xs) (length ys) ++ givenBody n xs ys (givenCount xs) room
-
--- the needs of a register
-pub record NeedsIn (hold setup : ℕ) : Type 0 where
-  pub hold : hold ≤ maxNeed
-  pub setup : setup ≤ maxNeed
 
 -- what the checks leave: as many numbers as four a pair and two a register, counts and values in range
 pub record GivenIn (n : ℕ) (xs ys : List ℕ) : Type 0 where
