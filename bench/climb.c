@@ -1,5 +1,5 @@
-/* Climbs to slow lists: climb time|ratio FILE SECONDS SEED OUT [COUNTS]. Starts from the list in FILE and changes it at random for so
- * many seconds; a change is kept if the plan then takes no less (time), or no less of what plain takes (ratio). In ratio at least
+/* Climbs to slow lists: climb time|ratio FILE SECONDS SEED OUT [COUNTS]. Starts from the list in FILE, which has no needs, and changes
+ * it at random for so many seconds; a change is kept if the plan then takes no less (time), or no less of what plain takes (ratio). In ratio at least
  * half the common period is kept: without that it comes to lists with all delays 0 and 1, where plain has nothing to seek. Writes
  * the list it has come to to OUT. Prints what the plan takes (time), or ours / plain (ratio), at the start and at the end.
  *
@@ -327,6 +327,10 @@ int main(int argc, char **argv) {
     uint64_t end = now() + strtoull(argv[3], NULL, 10) * 1000000000u;
     state = (strtoull(argv[4], NULL, 10) + 1) * 0x9e3779b97f4a7c15u;
     ours(count, 1); /* a list that is refused ends here */
+    if (words[1] >> 29 == 5) {
+        fprintf(stderr, "%s has needs\n", argv[2]);
+        return 2;
+    }
     decode(&best);
 
     double most = cost(&best, by_ratio, 8), start = most;

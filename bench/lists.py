@@ -1,9 +1,11 @@
-"""The lists of the benchmark: a name, the count of registers, and pairs (launch, capture, least, greatest)."""
+"""The lists of the benchmark: a name, the count of registers, pairs (launch, capture, least, greatest), and for some of them needs
+(hold, setup) of each register."""
 import pathlib
 import random
 import struct
 
 FOUND = pathlib.Path(__file__).with_name('found')
+MAX_NEED = 9_999
 
 # circuit: registers, pairs, common period in picoseconds (ISCAS89; those within 512 registers and 2,048 pairs)
 CIRCUITS = {
@@ -166,10 +168,21 @@ def hubwave(k, m):
     return k + 6, pairs + last
 
 
-def encode(net):
+def needs(net, most, seed):
+    """A hold and a setup up to `most` for each register; no hold is above a least delay that it would forbid."""
+    rng = random.Random(seed)
+    n, pairs = net
+    holds = [most] * n
+    for _, b, least, _ in pairs:
+        holds[b] = min(holds[b], least)
+    return [(rng.randint(hold // 2, hold), rng.randint(most // 2, most)) for hold in holds]
+
+
+def encode(net, needs=()):
     """The words of a list, as bytes."""
     n, pairs = net
     words = [1 << 29 | n << 12 | len(pairs)]
+    words += [5 << 29 | setup << 14 | hold for hold, setup in needs]
     for a, b, least, greatest in pairs:
         words += [2 << 29 | a << 10 | b, 3 << 29 | least, 4 << 29 | greatest]
     words.append(7 << 29 | sum(words) % (1 << 29))
@@ -177,7 +190,7 @@ def encode(net):
 
 
 def decode(words):
-    """The net of a list's bytes."""
+    """The net of a list's bytes, of a list without needs."""
     words = [word & 0x1fffffff for word, in struct.iter_unpack('<I', words)]
     body = words[1:-1]
     return words[0] >> 12, [(pair >> 10, pair & 0x3ff, least, greatest)
@@ -212,6 +225,29 @@ def found():
     """Lists that bench/climb.c found to be slow, for this planner and for those before."""
     for file in sorted(FOUND.glob('*.list')):
         yield file.stem.replace('-', ' '), decode(file.read_bytes())
+
+
+def lowered(net):
+    """The same net with all delays shorter by a hundredth, which leaves room for a setup."""
+    n, pairs = net
+    return n, [(a, b, least * 99 // 100, greatest * 99 // 100) for a, b, least, greatest in pairs]
+
+
+def counted_in(net, needs):
+    """The net without needs that asks for the same: a hold off the least delays, a setup on the greatest."""
+    n, pairs = net
+    return n, [(a, b, least - needs[b][0], greatest + needs[b][1]) for a, b, least, greatest in pairs]
+
+
+def needy():
+    """Nets and needs of every kind."""
+    for name in 's953', 's1423', 'prolog', 's5378', 's9234.1':
+        net = circuit(name)
+        yield name, net, needs(net, CIRCUITS[name][2] // 20, 15)
+    for name, net in (*shapes(), *hard()):
+        if name in ('random', 'near neighbours', 'chain', 'ring', 'ladder, mixed', 'strands, mixed', 'grid, mixed', 'nested'):
+            net = lowered(net)
+            yield name, net, needs(net, MAX_NEED, 16)
 
 
 def growth():

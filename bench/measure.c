@@ -33,12 +33,7 @@ static void ours(size_t count, uint64_t numbers[4]) {
 /* The two-timing period by halving, with the SAT solver as the judge of each period. */
 void sat_plan(uint64_t numbers[4]) {
     static int literals[8 * 2 * DARNERFLAX_MAX_PAIRS];
-    uint32_t common = 1;
-    for (uint32_t k = 0; k < (words[0] & 0xfff); k++) {
-        uint32_t greatest = words[3 + 3 * k] & 0x1fffffff;
-        common = greatest > common ? greatest : common;
-    }
-    uint32_t low = 1, high = common;
+    uint32_t common = plain_common(words), low = 1, high = common;
     while (low < high) {
         uint32_t middle = (low + high) / 2;
         size_t clauses = plain_clauses(words, middle, common - middle, literals);

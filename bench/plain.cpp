@@ -17,14 +17,22 @@ struct Net {
     std::vector<Pair> pairs;
 };
 
+// A pair with the needs of its capture register counted in: its hold off the least delay, its setup on the greatest.
 Net read(const uint32_t *words) {
     Net net;
     size_t m = words[0] & 0xfff;
     net.registers = words[0] >> 12 & 0x3ff;
     net.pairs.resize(m);
+    bool needy = words[1] >> 29 == 5;
+    const uint32_t *needs = words + 1, *first = needs + (needy ? net.registers : 0);
     for (size_t k = 0; k < m; k++) {
-        const uint32_t *w = words + 1 + 3 * k;
-        net.pairs[k] = {int(w[0] >> 10 & 0x3ff), int(w[0] & 0x3ff), int(w[1] & 0x1fffffff), int(w[2] & 0x1fffffff)};
+        const uint32_t *w = first + 3 * k;
+        Pair p = {int(w[0] >> 10 & 0x3ff), int(w[0] & 0x3ff), int(w[1] & 0x1fffffff), int(w[2] & 0x1fffffff)};
+        if (needy) {
+            p.least -= int(needs[p.capture] & 0x3fff);
+            p.greatest += int(needs[p.capture] >> 14 & 0x3fff);
+        }
+        net.pairs[k] = p;
     }
     return net;
 }
@@ -223,6 +231,10 @@ void plain_plan(const uint32_t *words, size_t, uint32_t *answer, uint64_t number
     numbers[1] = free;
     numbers[2] = two;
     numbers[3] = common - two;
+}
+
+uint32_t plain_common(const uint32_t *words) {
+    return uint32_t(common_period(read(words)));
 }
 
 size_t plain_clauses(const uint32_t *words, uint32_t period, uint32_t offset, int *literals) {

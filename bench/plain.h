@@ -1,4 +1,4 @@
-/* The usual method, for comparison: the same call as darnerflax_plan, for lists that are in order. */
+/* The usual method, for comparison: the same call as darnerflax_plan, for lists that are in order, with needs or without. */
 #ifndef PLAIN_H
 #define PLAIN_H
 
@@ -11,6 +11,8 @@ extern "C" {
 
 /* The four numbers of the plan in `numbers` and its 2n timings in `answer`. */
 void plain_plan(const uint32_t *words, size_t count, uint32_t *answer, uint64_t numbers[4]);
+
+uint32_t plain_common(const uint32_t *words);
 
 /* The clauses that ask for a split at a period and an offset: pairs of literals, v early as -(v + 1), v late as v + 1. */
 size_t plain_clauses(const uint32_t *words, uint32_t period, uint32_t offset, int *literals);

@@ -18,7 +18,15 @@ import milp
 
 ROOT = pathlib.Path(__file__).resolve().parent.parent
 WORK = ROOT / 'target' / 'bench'
-BEFORE = dict(line.split(': ') for line in pathlib.Path(__file__).with_name('before.txt').read_text().splitlines())
+
+
+def counts(name):
+    """The instructions of each list, from a file of lines with its name and their count."""
+    return dict(line.split(': ') for line in pathlib.Path(__file__).with_name(name).read_text().splitlines())
+
+
+# of the planner with rounds, and of the one that knew no needs
+BEFORE, BEFORE_NEEDS = counts('before.txt'), counts('before-needs.txt')
 CALL = {'ours': 'darnerflax_plan', 'plain': 'plain_plan', 'sat': 'sat_plan'}
 REPEATS = {'ours': 200, 'plain': 5, 'sat': 5}
 
@@ -51,10 +59,10 @@ def measured(who, file):
 
 
 class Row:
-    def __init__(self, name, net, limit=None):
+    def __init__(self, name, net, limit=None, needs=()):
         self.name, self.n, self.m = name, net[0], len(net[1])
         self.file = WORK / f'{name}.list'
-        self.file.write_bytes(lists.encode(net))
+        self.file.write_bytes(lists.encode(net, needs))
         self.seconds, self.count, answer = measured('ours', self.file)
         self.common, self.free, self.two, _ = map(int, answer[:4])
         self.plain_seconds, self.plain_count, plain = measured('plain', self.file)
@@ -74,6 +82,10 @@ class Row:
     def more(self):
         """Instructions beside those of the planner before, 0 where these are not known."""
         return self.count / int(BEFORE[self.name]) if self.name in BEFORE else 0
+
+    def since_needs(self):
+        """Instructions beside those of the planner that knew no needs."""
+        return self.count / int(BEFORE_NEEDS[self.name])
 
     def faster(self):
         """Against the faster of the two MILP solvers, finished or cut off."""
@@ -127,6 +139,32 @@ class Summary:
                          f'{1 / self.least:.4f}', f'{self.share:.4f}', f'{self.total:.4f}', f'{million(self.most.count)} ({self.most.name})')
 
 
+class Needy:
+    """A list with needs, beside the same list without, and the list without that asks for the same."""
+
+    def __init__(self, name, net, needs):
+        self.name = name
+        self.row = Row(name + ' with needs', net, needs=needs)
+        self.without = Row(name + ' without needs', net)
+        self.counted_in = Row(name + ' with needs counted in', lists.counted_in(net, needs))
+
+    def more(self):
+        return self.row.count / self.without.count
+
+    def more_than_counted_in(self):
+        return self.row.count / self.counted_in.count
+
+    def line(self):
+        r = self.row
+        return table_row(self.name, r.n, r.m, r.common, r.free, r.two, million(r.count), million(self.without.count), f'{self.more():.2f}',
+                         million(self.counted_in.count), f'{self.more_than_counted_in():.2f}', million(r.plain_count),
+                         f'{r.fewer():.0f}', micro(r.seconds), micro(r.plain_seconds))
+
+
+NEEDY_HEAD = ('list', 'registers', 'pairs', 'common', 'free', 'two', 'ours, million instructions', 'without needs', 'ours / that', 'counted in',
+              'ours / that', 'plain', 'plain / ours', 'ours, µs', 'plain')
+
+
 def growth(unit, rows):
     head = (unit, 'ours, million instructions', 'plain', 'ours, µs', 'plain')
     return table(head, [table_row(size, million(r.count), million(r.plain_count), micro(r.seconds), micro(r.plain_seconds))
@@ -161,6 +199,10 @@ def main():
     every = circuits + shapes + hard + grown + found
     more = [row for row in every if row.more() > 1]
     most_more = max(every, key=Row.more)
+    with_needs = [Needy(*three) for three in lists.needy()]
+    since = [row for row in every if row.since_needs() > 1]
+    most_since = max(every, key=Row.since_needs)
+    most_needy, most_counted = max(with_needs, key=Needy.more), max(with_needs, key=Needy.more_than_counted_in)
     ones = Row('delays of 0 and 1', lists.ones(512, 2048, 14))
     few_ones = Row('delays of 0 and 1, 100 registers', lists.ones(100, 242, 14))
     faster = min(row.faster() for row in circuits + shapes if row.n >= 100)
@@ -183,7 +225,12 @@ def main():
         'CIRCUITS': table(long_head, [row.line() for row in circuits]), 'SHAPES': table(long_head, [row.line() for row in shapes]),
         'HARD': table((*head, 'plain / ours', 'ours, µs', 'plain'), [row.short_line() for row in hard]),
         'FOUND': table((*head, 'plain / ours', 'ours, µs', 'plain'), [row.short_line() for row in found]),
-        'BY_PAIRS': growth('pairs', by_pairs), 'BY_REGISTERS': growth('registers', by_registers), 'STACK': stack(every),
+        'BY_PAIRS': growth('pairs', by_pairs), 'BY_REGISTERS': growth('registers', by_registers),
+        'NEEDY': table(NEEDY_HEAD, [needy.line() for needy in with_needs]),
+        'MOST_NEEDY': f'{most_needy.more():.2f}', 'MOST_NEEDY_LIST': most_needy.name,
+        'MOST_COUNTED': f'{most_counted.more_than_counted_in():.2f}', 'MOST_COUNTED_LIST': most_counted.name,
+        'SINCE': len(since), 'SINCE_OF': len(every), 'MOST_SINCE': f'{most_since.since_needs():.2f}', 'MOST_SINCE_LIST': most_since.name,
+        'STACK': stack(every + [needy.row for needy in with_needs]),
     }.items():
         text = text.replace('{' + key + '}', str(value))
     (ROOT / 'docs' / 'BENCHMARKS.md').write_text(text)

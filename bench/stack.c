@@ -16,18 +16,19 @@ static uint64_t stack[PLACES];
 static uint64_t *top;
 static ucontext_t caller, callee;
 
-static uint32_t words[DARNERFLAX_MAX_WORDS], numbers[4 * DARNERFLAX_MAX_PAIRS], written[DARNERFLAX_MAX_WORDS];
+static uint32_t words[DARNERFLAX_MAX_WORDS], numbers[DARNERFLAX_MAX_NUMBERS], written[DARNERFLAX_MAX_WORDS];
 static uint32_t answer[2 * DARNERFLAX_MAX_REGISTERS], scratch[DARNERFLAX_MAX_SCRATCH];
 static uint64_t counts[DARNERFLAX_REPLY], periods[DARNERFLAX_REPLY], plan[DARNERFLAX_REPLY], reply[DARNERFLAX_REPLY];
 static uint8_t text[DARNERFLAX_TEXT];
 static size_t count;
 
 static uint32_t read_list(void) {
-    return darnerflax_read(words, count, numbers, 4 * DARNERFLAX_MAX_PAIRS, counts);
+    return darnerflax_read(words, count, numbers, DARNERFLAX_MAX_NUMBERS, counts);
 }
 
 static uint32_t write_list(void) {
-    return darnerflax_write((uint32_t)counts[1], numbers, 4 * counts[2], written, DARNERFLAX_MAX_WORDS, reply);
+    return darnerflax_write((uint32_t)counts[1], numbers, 4 * counts[2], numbers + 4 * counts[2], 2 * counts[1],
+                            written, DARNERFLAX_MAX_WORDS, reply);
 }
 
 static uint32_t free_schedule(void) {

@@ -9,15 +9,27 @@
  *   reply[1..4]   the values, then zeros
  * A refusal has one value, its place, counted from 0.
  *
- * Refusals of the list: 11 count of words, 12 head, 13 kind of a word or spare bits, 14 register, 15 delay,
- * 16 least delay above greatest, 17 end word. Of the call: 3 period, offset or timings, 2 `answer` too short,
- * 1 `scratch` too short. The list is checked first, pair by pair, then 3, 2, 1; the first that fits is returned.
+ * Refusals of the list: 11 count of words, 12 head, 13 kind of a word, spare bits or a need above 9,999, 14 register,
+ * 15 delay, 16 least delay above greatest, 17 end word, 18 a block of needs that are all zero, 19 least delay below the
+ * hold of its capture register. Of the call: 3 period, offset or timings, 2 `answer` too short, 1 `scratch` too short.
+ * The list is checked first: head, needs (13, then 18), pair by pair (13, 14, 15, 16, 19), end; then 3, 2, 1. The first
+ * that fits is returned.
  *
  * Status and reply tell one answer of the job, and all that the job promises of it is proved of the C function too:
  * a plan that nobody beats, a list that reads back as it was written, a check that passes the admissible schedules
  * and no other.
  *
- * n is the count of registers (1 to 512), m the count of pairs (0 to 2,048). Times are in picoseconds.
+ * n is the count of registers (1 to 512), m the count of pairs (0 to 2,048). Times are in picoseconds: delays up to
+ * 1,000,000, needs up to 9,999, periods and offsets up to 1,009,999, timings up to 516,109,489.
+ *
+ * Each register has a hold and a setup need, both 0 in a list without a block of needs. The rules of a pair from launch
+ * register a to capture register b, whose ticks come at the timings S(a) and S(b), at the period T:
+ *   setup   S(a) + greatest + setup(b) <= S(b) + T
+ *   hold    S(b) + hold(b) <= S(a) + least
+ * The common period is the largest greatest + setup(b), at least 1: with all timings 0 it meets both rules.
+ *
+ * A list has a head word, then n words of needs (kind 5, hold and setup of each register) or none, three words for each
+ * pair, and an end word: 3m + 2 words without needs, 3m + 2 + n with them.
  *
  * No memory is allocated. The most stack that a call was seen to take, in bytes, rounded up (docs/BENCHMARKS.md):
  * read 200, write 100, check 200, free 19,000, split 400, plan 21,000, report 95,000.
@@ -35,34 +47,42 @@ extern "C" {
 #define DARNERFLAX_REPLY 5
 #define DARNERFLAX_MAX_REGISTERS 512
 #define DARNERFLAX_MAX_PAIRS 2048
-/* words and bytes of the longest list */
-#define DARNERFLAX_MAX_WORDS (3 * DARNERFLAX_MAX_PAIRS + 2)
+/* the largest hold or setup of a register */
+#define DARNERFLAX_MAX_NEED 9999
+/* words and bytes of the longest list, which has needs */
+#define DARNERFLAX_MAX_WORDS (3 * DARNERFLAX_MAX_PAIRS + 2 + DARNERFLAX_MAX_REGISTERS)
 #define DARNERFLAX_MAX_BYTES (4 * DARNERFLAX_MAX_WORDS)
+/* numbers of the longest list: four for each pair, two for each register */
+#define DARNERFLAX_MAX_NUMBERS (4 * DARNERFLAX_MAX_PAIRS + 2 * DARNERFLAX_MAX_REGISTERS)
 /* places of scratch that are enough for any list */
 #define DARNERFLAX_MAX_SCRATCH (6 * DARNERFLAX_MAX_REGISTERS + 4 * DARNERFLAX_MAX_PAIRS)
 /* bytes that darnerflax_report asks for */
 #define DARNERFLAX_TEXT 32768
 
 /* Reads a list into plain numbers.
- * Values: n, m. The first 4m places of `answer` hold launch, capture, least and greatest of each pair; later
- * places are kept. Refusals: 11 to 17; 2 for fewer than 4m places. */
+ * Values: n, m. The first 4m places of `answer` hold launch, capture, least and greatest of each pair, the next 2n hold
+ * and setup of each register, zeros for a list without needs; later places are kept. Refusals: 11 to 19; 2 for fewer than
+ * 4m + 2n places. */
 uint32_t darnerflax_read(const uint32_t *words, size_t words_len,
                          uint32_t *answer, size_t answer_len,
                          uint64_t reply[DARNERFLAX_REPLY]);
 
-/* Writes the list of n registers from four numbers for each pair: launch, capture, least, greatest.
- * Value: the count of words, 3m + 2, which fill the first places of `answer`; later places are kept.
- * Refusals: 11 if the numbers are not four for each pair, 12, then 14, 15, 16 with the pair's index as place;
- * 2 for fewer than 3m + 2 places. */
+/* Writes the list of n registers from four numbers for each pair: launch, capture, least, greatest; and two needs for each
+ * register: hold, setup. Needs that are all zero are written without a block.
+ * Value: the count of words, 3m + 2, or 3m + 2 + n with a block, which fill the first places of `answer`; later places are
+ * kept. Refusals: 11 if the numbers are not four for each pair; 12; 11 if the needs are not 2n; 13 for a need above 9,999,
+ * with the register as place; then pair by pair 14, 15, 16, 19, with the pair's index as place; 2 for fewer places than
+ * there are words. There is no 18. */
 uint32_t darnerflax_write(uint32_t n,
                           const uint32_t *numbers, size_t numbers_len,
+                          const uint32_t *needs, size_t needs_len,
                           uint32_t *answer, size_t answer_len,
                           uint64_t reply[DARNERFLAX_REPLY]);
 
 /* Checks a schedule, a timing for each register, at a period.
  * No value if it is admissible. Else two: the first pair that breaks a rule, and the rule, 0 setup or 1 hold
- * (setup is named before hold). Refusals: 11 to 17; 3 for a period outside 1 to 1,000,000, a timing above
- * 511,000,000 or not exactly n timings. */
+ * (setup is named before hold). Refusals: 11 to 19; 3 for a period outside 1 to 1,009,999, a timing above
+ * 516,109,489 or not exactly n timings. */
 uint32_t darnerflax_check(const uint32_t *words, size_t words_len,
                           uint32_t period,
                           const uint32_t *timings, size_t timings_len,
@@ -70,7 +90,7 @@ uint32_t darnerflax_check(const uint32_t *words, size_t words_len,
 
 /* The common and the free period and the least free schedule.
  * Values: common, free. The schedule fills the first n places of `answer`; later places are kept.
- * Refusals: 11 to 17; 2 for fewer than n places. */
+ * Refusals: 11 to 19; 2 for fewer than n places. */
 uint32_t darnerflax_free(const uint32_t *words, size_t words_len,
                          uint32_t *answer, size_t answer_len,
                          uint64_t reply[DARNERFLAX_REPLY]);
@@ -78,7 +98,7 @@ uint32_t darnerflax_free(const uint32_t *words, size_t words_len,
 /* The first split at a period and an offset, in register order, early before late.
  * Value: 1 if one works, its timings (0 or the offset) then fill the first n places of `answer`; 0 if none works,
  * `answer` is then kept whole. Either way the first 6n + 4m places of `scratch` are left zero; later places of both
- * are kept. Refusals: 11 to 17; 3 for a period outside 1 to 1,000,000 or an offset above 1,000,000; 2 for fewer than
+ * are kept. Refusals: 11 to 19; 3 for a period outside 1 to 1,009,999 or an offset above 1,009,999; 2 for fewer than
  * n places; 1 for fewer than 6n + 4m places of scratch. */
 uint32_t darnerflax_split(const uint32_t *words, size_t words_len,
                           uint32_t period, uint32_t offset,
@@ -89,7 +109,7 @@ uint32_t darnerflax_split(const uint32_t *words, size_t words_len,
 /* The full plan.
  * Values: the common, the free and the two-timing period, and the offset. The free timings fill the first n places of
  * `answer`, the timings of the first split (0 or the offset) the next n. The first 6n + 4m places of `scratch` are
- * left zero; later places of both are kept. Refusals: 11 to 17; 2 for fewer than 2n places; 1 for fewer than 6n + 4m
+ * left zero; later places of both are kept. Refusals: 11 to 19; 2 for fewer than 2n places; 1 for fewer than 6n + 4m
  * places of scratch. */
 uint32_t darnerflax_plan(const uint32_t *words, size_t words_len,
                          uint32_t *answer, size_t answer_len,

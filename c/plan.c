@@ -77,7 +77,8 @@ static int plan(size_t count) {
 }
 
 /* Whether the bytes begin as a text of numbers does: a digit, space, newline, comma, `#` or a byte order mark, and
- * nothing but printable letters in the first eight. A list has others there, in its first pair or its end word. */
+ * nothing but printable letters in the first eight. A list has others there, in its first pair, its first needs or its
+ * end word. */
 static int looks_like_text(size_t count) {
     if (count >= 3 && memcmp(bytes, "\xef\xbb\xbf", 3) == 0) {
         return 1;

@@ -39,6 +39,24 @@ planned
 ends 0 < lists/P
 planned
 
+# ---- a list with needs, and its refusals: the needs of P-needs are its second and third word
+
+ends 0 lists/P-needs
+printf 'common 11 free 8 two 8 offset 3\n0 0 0\n1 3 3\n' | diff "$out" - || fail "another plan of P-needs"
+empty "$err"
+# with what comes after its first so many bytes, in place of as many of its own, P-needs is refused so
+refused() {
+    local count=$1 bytes=$2 line=$3
+    ends 1 < <(head -c "$count" lists/P-needs; printf %b "$bytes"; tail -c +$((count + ${#bytes} / 4 + 1)) lists/P-needs)
+    holds "$out" "$line"
+    empty "$err"
+}
+refused 4 '\x01\x80\x00\xb0' "refused 13 at 1"
+refused 8 '\x10\x27\x00\xa0' "refused 13 at 2"
+refused 4 '\x00\x00\x00\xa0\x00\x00\x00\xa0' "refused 18 at 1"
+refused 16 '\x01\x00\x00\x60' "refused 19 at 4"
+refused 4 '\x01\x00\x00\x40' "refused 11 at 0"
+
 # ---- what cannot be opened or read is named
 
 unread() {
@@ -85,14 +103,16 @@ done
 # ---- a text in place of a list, and lists that are no text
 
 hint="this looks like a text: make_list makes a delay list of it"
-ends 1 lists/P.txt
-holds "$out" "refused 11 at 0"
-holds "$err" "$hint"
+for text in lists/P.txt lists/P-needs.txt; do
+    ends 1 "$text"
+    holds "$out" "refused 11 at 0"
+    holds "$err" "$hint"
+done
 for text in '8\n' '# a chip\n2\n' '\xef\xbb\xbf2\n0 1 7 10\n' '2\r\n0,1,7,10\r\n' '\n 2\n0 1 7 10\n '; do
     ends 1 < <(printf %b "$text")
     holds "$err" "$hint"
 done
-for bytes in '' '\x02\x20\x00\x20' '\x30\x30\x09\x20\x01\x04\x00\x40' '\x02\x20\x00\x20\x01'; do
+for bytes in '' '\x02\x20\x00\x20' '\x30\x30\x09\x20\x01\x00\x00\xa0' '\x30\x30\x09\x20\x01\x04\x00\x40' '\x02\x20\x00\x20\x01'; do
     ends 1 < <(printf %b "$bytes")
     holds "$out" "refused 11 at 0"
     empty "$err"

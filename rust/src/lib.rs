@@ -12,11 +12,19 @@ const REPLY_PLACES: usize = 5;
 pub const MAX_REGISTERS: usize = 512;
 pub const MAX_PAIRS: usize = 2_048;
 
-/// The words of the longest list.
-pub const MAX_WORDS: usize = 3 * MAX_PAIRS + 2;
+/// The most that a register needs, for hold or for setup, in picoseconds.
+pub const MAX_NEED: u32 = 9_999;
+
+/// The words of the longest list: the head, a word for each register, three for each pair, the end.
+pub const MAX_WORDS: usize = 1 + MAX_REGISTERS + 3 * MAX_PAIRS + 1;
 
 /// The bytes that [`report`] asks for.
 pub const TEXT_PLACES: usize = 32_768;
+
+/// The places that [`read`] fills for a list of so many registers and pairs.
+pub const fn read_places(registers: usize, pairs: usize) -> usize {
+    4 * pairs + 2 * registers
+}
 
 /// The places of scratch for a list of so many registers and pairs.
 pub const fn scratch_places(registers: usize, pairs: usize) -> usize {
@@ -37,13 +45,15 @@ impl Refusal {
             1 => "the scratch buffer is too short",
             2 => "the answer buffer is too short",
             3 => "period, offset or timing out of range, or not one timing for each register",
-            11 => "the count of words or numbers is wrong",
+            11 => "the count of words, of numbers or of needs is wrong",
             12 => "the count of registers or of pairs is out of range",
-            13 => "a word of the wrong kind: the list is damaged",
+            13 => "a word of the wrong kind, or a need above 9999 picoseconds",
             14 => "a register is not below the count of registers",
             15 => "a delay is above 1000000 picoseconds",
             16 => "a least delay is above its greatest",
             17 => "the sum at the end is wrong: the list is damaged",
+            18 => "all needs are zero: such a list has no words for them",
+            19 => "a least delay is below the hold of its capture register",
             _ => "no call is refused with this number",
         }
     }
@@ -107,6 +117,8 @@ extern "C" {
         n: u32,
         numbers: *const u32,
         numbers_len: usize,
+        needs: *const u32,
+        needs_len: usize,
         answer: *mut u32,
         answer_len: usize,
         reply: *mut Reply,
@@ -152,7 +164,8 @@ fn told(call: impl FnOnce(*mut Reply) -> u32) -> Result<Reply, Refusal> {
     }
 }
 
-/// Reads a list: launch, capture, least and greatest of each pair fill the first 4m places of `answer`.
+/// Reads a list: launch, capture, least and greatest of each pair fill the first 4m places of `answer`, hold and setup need
+/// of each register the next 2n, which are zeros for a list without needs.
 pub fn read(words: &[u32], answer: &mut [u32]) -> Result<Counts, Refusal> {
     // SAFETY: pointer and length of a slice each; the function has no precondition.
     let [_, registers, pairs, ..] =
@@ -160,12 +173,22 @@ pub fn read(words: &[u32], answer: &mut [u32]) -> Result<Counts, Refusal> {
     Ok(Counts { registers: registers as u32, pairs: pairs as u32 })
 }
 
-/// Writes the list of n registers from four numbers for each pair; its words fill the first places of `answer`. The count
-/// of words is returned.
-pub fn write(n: u32, numbers: &[u32], answer: &mut [u32]) -> Result<usize, Refusal> {
+/// Writes the list of n registers from four numbers for each pair, and a hold and a setup need for each register; its words
+/// fill the first places of `answer`. Needs that are all zero take no words. The count of words is returned.
+pub fn write(n: u32, numbers: &[u32], needs: &[u32], answer: &mut [u32]) -> Result<usize, Refusal> {
     // SAFETY: as for `read`.
-    let [_, count, ..] =
-        told(|reply| unsafe { darnerflax_write(n, numbers.as_ptr(), numbers.len(), answer.as_mut_ptr(), answer.len(), reply) })?;
+    let [_, count, ..] = told(|reply| unsafe {
+        darnerflax_write(
+            n,
+            numbers.as_ptr(),
+            numbers.len(),
+            needs.as_ptr(),
+            needs.len(),
+            answer.as_mut_ptr(),
+            answer.len(),
+            reply,
+        )
+    })?;
     Ok(count as usize)
 }
 

@@ -7,23 +7,46 @@ use darnerflax::*;
 /// 0-1 7/10 and 1-0 1/3.
 const P: [u32; 8] = [0x2000_2002, 0x4000_0001, 0x6000_0007, 0x8000_000a, 0x4000_0400, 0x6000_0001, 0x8000_0003, 0xe000_2418];
 
-const LINES: [(u32, &str); 10] = [
+/// The same with needs, hold and setup: 1 and 2 of register 0, 2 and 1 of register 1.
+const NEEDY: [u32; 10] = [
+    0x2000_2002,
+    0xa000_8001,
+    0xa000_4002,
+    0x4000_0001,
+    0x6000_0007,
+    0x8000_000a,
+    0x4000_0400,
+    0x6000_0001,
+    0x8000_0003,
+    0xe000_e41b,
+];
+
+const LINES: [(u32, &str); 12] = [
     (1, "refused 1 at 0: the scratch buffer is too short"),
     (2, "refused 2 at 0: the answer buffer is too short"),
     (3, "refused 3 at 0: period, offset or timing out of range, or not one timing for each register"),
-    (11, "refused 11 at 0: the count of words or numbers is wrong"),
+    (11, "refused 11 at 0: the count of words, of numbers or of needs is wrong"),
     (12, "refused 12 at 0: the count of registers or of pairs is out of range"),
-    (13, "refused 13 at 5: a word of the wrong kind: the list is damaged"),
+    (13, "refused 13 at 5: a word of the wrong kind, or a need above 9999 picoseconds"),
     (14, "refused 14 at 4: a register is not below the count of registers"),
     (15, "refused 15 at 6: a delay is above 1000000 picoseconds"),
     (16, "refused 16 at 6: a least delay is above its greatest"),
     (17, "refused 17 at 7: the sum at the end is wrong: the list is damaged"),
+    (18, "refused 18 at 1: all needs are zero: such a list has no words for them"),
+    (19, "refused 19 at 4: a least delay is below the hold of its capture register"),
 ];
 
 /// A plan of P with the word at a place changed, in room for two registers and two pairs.
 fn plan_with(place: usize, word: u32) -> Result<Plan, Refusal> {
     let mut words = P;
     words[place] = word;
+    plan(&words, &mut [0; 4], &mut [0; 20])
+}
+
+/// The same of the list with needs, with one word or more from a place on changed.
+fn needy_with(place: usize, changed: &[u32]) -> Result<Plan, Refusal> {
+    let mut words = NEEDY;
+    words[place..place + changed.len()].copy_from_slice(changed);
     plan(&words, &mut [0; 4], &mut [0; 20])
 }
 
@@ -39,7 +62,9 @@ fn refused(number: u32) -> Refusal {
         14 => plan_with(4, 0x4000_0800),
         15 => plan_with(6, 0x8000_0000 + 1_000_001),
         16 => plan_with(6, 0x8000_0000),
-        _ => plan_with(7, 0xe000_2419),
+        17 => plan_with(7, 0xe000_2419),
+        18 => needy_with(1, &[0xa000_0000, 0xa000_0000]),
+        _ => needy_with(4, &[0x6000_0001]),
     };
     call.unwrap_err()
 }

@@ -4,11 +4,29 @@ use darnerflax::*;
 /// 0-1 7/10 and 1-0 1/3.
 const P: [u32; 8] = [0x2000_2002, 0x4000_0001, 0x6000_0007, 0x8000_000a, 0x4000_0400, 0x6000_0001, 0x8000_0003, 0xe000_2418];
 
-fn list(n: u32, numbers: &[u32]) -> Vec<u32> {
+/// P with needs, hold and setup: 1 and 2 of register 0, 2 and 1 of register 1.
+const NEEDY: [u32; 10] = [
+    0x2000_2002,
+    0xa000_8001,
+    0xa000_4002,
+    0x4000_0001,
+    0x6000_0007,
+    0x8000_000a,
+    0x4000_0400,
+    0x6000_0001,
+    0x8000_0003,
+    0xe000_e41b,
+];
+
+fn needy_list(n: u32, numbers: &[u32], needs: &[u32]) -> Vec<u32> {
     let mut words = vec![0; MAX_WORDS];
-    let count = write(n, numbers, &mut words).unwrap();
+    let count = write(n, numbers, needs, &mut words).unwrap();
     words.truncate(count);
     words
+}
+
+fn list(n: u32, numbers: &[u32]) -> Vec<u32> {
+    needy_list(n, numbers, &vec![0; 2 * n as usize])
 }
 
 /// The numbers of the plan, the free timings and the split.
@@ -16,7 +34,7 @@ fn planned(words: &[u32]) -> ([u32; 4], Vec<u32>, Vec<u32>) {
     let mut answer = [7; 2 * MAX_REGISTERS];
     let mut scratch = vec![7; scratch_places(MAX_REGISTERS, MAX_PAIRS)];
     let Plan { common, free, two, offset } = plan(words, &mut answer, &mut scratch).unwrap();
-    let n = read(words, &mut [0; 4 * MAX_PAIRS]).unwrap().registers as usize;
+    let n = read(words, &mut [0; read_places(MAX_REGISTERS, MAX_PAIRS)]).unwrap().registers as usize;
     ([common, free, two, offset], answer[..n].to_vec(), answer[n..2 * n].to_vec())
 }
 
@@ -33,6 +51,42 @@ fn plans() {
     assert_eq!(planned(&list(2, &[0, 1, 7, 10, 0, 1, 2, 4])).0, [10, 8, 8, 2]);
 }
 
+/// The common period takes the greatest delay and the setup of the capture register, and a hold takes off from what a register
+/// may be later. With no hold to take off, 0-1 10/10 goes down to what the setup needs.
+#[test]
+fn plans_with_needs() {
+    assert_eq!(planned(&NEEDY), ([11, 8, 8, 3], vec![0, 3], vec![0, 3]));
+    assert_eq!(planned(&needy_list(2, &[0, 1, 10, 10], &[0, 0, 0, 4])), ([14, 4, 4, 10], vec![0, 10], vec![0, 10]));
+    assert_eq!(planned(&needy_list(2, &[0, 1, 10, 10], &[0, 0, 4, 0])), ([10, 4, 4, 6], vec![0, 6], vec![0, 6]));
+    assert_eq!(planned(&needy_list(2, &[0, 1, 10, 10], &[4, 4, 0, 0])).0, [10, 1, 1, 9]);
+    assert_eq!(planned(&needy_list(1, &[0, 0, 2, 5], &[2, 3])).0, [8, 8, 8, 0]);
+    assert_eq!(planned(&needy_list(3, &[], &[0, 0, 1, 0, 0, 0])).0, [1, 1, 1, 0]);
+    let most = needy_list(2, &[0, 1, 1_000_000, 1_000_000], &[0, 0, 0, 9_999]);
+    assert_eq!(planned(&most), ([1_009_999, 9_999, 9_999, 1_000_000], vec![0, 1_000_000], vec![0, 1_000_000]));
+}
+
+#[test]
+fn needs_read_and_written() {
+    let mut answer = [7; 13];
+    assert_eq!(read(&NEEDY, &mut answer), Ok(Counts { registers: 2, pairs: 2 }));
+    assert_eq!(answer, [0, 1, 7, 10, 1, 0, 1, 3, 1, 2, 2, 1, 7]);
+    assert_eq!(needy_list(2, &answer[..8], &answer[8..12]), NEEDY);
+    assert_eq!(read(&P, &mut answer), Ok(Counts { registers: 2, pairs: 2 }));
+    assert_eq!(answer[8..], [0, 0, 0, 0, 7]);
+    assert_eq!(read(&P, &mut [0; 11]), Err(Refusal { number: 2, place: 0 }));
+    assert_eq!(list(2, &answer[..8]), P);
+}
+
+#[test]
+fn checks_with_needs() {
+    assert_eq!(check(&NEEDY, 8, &[0, 3]), Ok(Checked::Admissible));
+    assert_eq!(check(&NEEDY, 7, &[0, 3]), Ok(Checked::Broken { pair: 0, rule: Rule::Setup }));
+    assert_eq!(check(&NEEDY, 8, &[0, 4]), Ok(Checked::Broken { pair: 1, rule: Rule::Setup }));
+    assert_eq!(check(&NEEDY, 11, &[0, 5]), Ok(Checked::Admissible));
+    assert_eq!(check(&NEEDY, 11, &[0, 6]), Ok(Checked::Broken { pair: 0, rule: Rule::Hold }));
+    assert_eq!(check(&NEEDY, 12, &[1, 0]), Ok(Checked::Broken { pair: 1, rule: Rule::Hold }));
+}
+
 #[test]
 fn splits_of_p() {
     for (offset, works) in [(2, false), (3, true), (4, true), (5, false)] {
@@ -46,7 +100,7 @@ fn splits_of_p() {
 
 #[test]
 fn edges_of_a_list() {
-    let one = |n, four: [u32; 4]| write(n, &four, &mut [0; 5]).map_err(|refusal| refusal.number);
+    let one = |n, four: [u32; 4]| write(n, &four, &[0; 4], &mut [0; 5]).map_err(|refusal| refusal.number);
     assert_eq!([one(2, [0, 1, 0, 1_000_000]), one(2, [0, 1, 0, 1_000_001])], [Ok(5), Err(15)]);
     assert_eq!([one(2, [0, 1, 4, 4]), one(2, [0, 1, 4, 3])], [Ok(5), Err(16)]);
     assert_eq!([one(2, [0, 1, 0, 0]), one(2, [0, 2, 0, 0])], [Ok(5), Err(14)]);
@@ -64,7 +118,8 @@ fn checks_of_p() {
 fn nothing_lent() {
     let short = Refusal { number: 11, place: 0 };
     assert_eq!(read(&[], &mut []), Err(short));
-    assert_eq!(write(1, &[], &mut []), Err(Refusal { number: 2, place: 0 }));
+    assert_eq!(write(1, &[], &[], &mut []), Err(short));
+    assert_eq!(write(1, &[], &[0, 0], &mut []), Err(Refusal { number: 2, place: 0 }));
     assert_eq!(check(&[], 1, &[]), Err(short));
     assert_eq!(free(&[], &mut []), Err(short));
     assert_eq!(split(&[], 1, 0, &mut [], &mut []), Err(short));

@@ -189,6 +189,9 @@ fn pair_fault(words: &[u32], needs: usize, n: u32, k: usize) -> Fault
     let greatest = words[at + 2];
     let found = kind_fault(pair, least, greatest, at);
     let p = pair_of(pair, least, greatest);
+    if needs == 0 {
+        return value_fault(found, n, 0, p, at, at + 1, at + 2);
+    }
     let hold = hold_at(words, needs, p.capture);
     value_fault(found, n, hold, p, at, at + 1, at + 2)
 }
@@ -265,13 +268,27 @@ pub fn need_count(words: &[u32]) -> usize
     need_words(word_at(words, 0), word_at(words, 1))
 }
 
+// The smallest word of needs. Where there is a pair, a word after the head that is no word of needs is its first, which is smaller.
+const FIRST_NEEDS: u32 = 0xA000_0000;
+
+// Pair k as it is written, after so many words of needs.
+fn three_at(words: &[u32], needs: usize, k: usize) -> Pair
+    requires { ⌜ (needs ≡ needWords (now words)) × ((needs < 2 ^ registerBits) × PairIn (now words) k) ⌝ }
+    ensures { λ r. ⌜ IsWritten (now (words .entry)) k r ⌝ }
+{
+    let at = pair_place(needs, k);
+    pair_of(words[at], words[at + 1], words[at + 2])
+}
+
 // Pair k as it is written, from its three words.
 fn pair_from(words: &[u32], k: usize) -> Pair
     requires { ⌜ PairIn (now words) k ⌝ }
     ensures { λ r. ⌜ IsWritten (now (words .entry)) k r ⌝ }
 {
-    let at = pair_place(need_words(words[0], words[1]), k);
-    pair_of(words[at], words[at + 1], words[at + 2])
+    if words[1] < FIRST_NEEDS {
+        return three_at(words, 0, k);
+    }
+    three_at(words, words::head_registers(words[0]) as usize, k)
 }
 
 // m, the count of pairs.
@@ -382,12 +399,12 @@ fn with_needs(p: Pair, need: u32) -> Pair
     }
 }
 
-// A pair of an accepted list with the needs of its capture register counted in.
-fn count_needs(words: &[u32], p: Pair) -> Pair
-    requires { ⌜ IsAccepted (now words) × WrittenIn (registers (now words)) (holdAt (now words) (p .capture)) p ⌝ }
+// Pair k of an accepted list with the needs of its capture register counted in.
+fn count_needs(words: &[u32], k: usize, p: Pair) -> Pair
+    requires { ⌜ PairIn (now words) k × WrittenIn (registers (now words)) (holdAt (now words) (p .capture)) p ⌝ }
     ensures { λ r. ⌜ r ≡ countingNeeds (now (words .entry)) p ⌝ }
 {
-    if words::kind(words[1]) != words::KIND_NEEDS {
+    if words[1] < FIRST_NEEDS {
         return p;
     }
     with_needs(p, need_at(words, p.capture))
@@ -398,7 +415,7 @@ pub fn pair_at(words: &[u32], k: usize) -> Pair
     requires { ⌜ PairIn (now words) k ⌝ }
     ensures { λ r. ⌜ IsPair (now (words .entry)) k r ⌝ }
 {
-    count_needs(words, written_at(words, k))
+    count_needs(words, k, written_at(words, k))
 }
 
 // The i-th pair of a walk over m pairs: up the list, or from its end if down.

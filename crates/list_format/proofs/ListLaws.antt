@@ -1,5 +1,5 @@
 -- What it means for a list to be accepted, fact by fact, and what follows for its pairs.
-use Prim.Native.Nat.{ℕ, zero, suc, _+_, _*_, _-_, _<_, _≤_}
+use Prim.Native.Nat.{ℕ, zero, suc, _+_, _*_, _-_, _^_, _<_, _≤_}
 use mathlib.Core.Bool.{Bool, true, false, not, cond, _&&_}
 use mathlib.Core.List.{List, [], _∷_, _++_}
 use mathlib.Core.Logic.{_⊎_, inl, inr}
@@ -12,7 +12,7 @@ use Rattle.timing.specs.declared.Pair.{Pair}
 use Rattle.timing.specs.Rules.{Each, InRange}
 use Rattle.timing.specs.Limits.{maxRegisters, maxPairs, maxDelay, maxNeed, maxPeriod}
 use Rattle.words.specs.Word.{kindHead, kindPair, kindLeast, kindGreatest, kindNeeds, kindEnd, kindOf, payloadOf, headSpare, pairSpare, checksum}
-use Rattle.words.specs.Word.{holdOf, setupOf, needsSpare}
+use Rattle.words.specs.Word.{payloadBits, holdOf, setupOf, needsSpare}
 use Rattle.refusals.specs.Checks.{Check, firstFault, eachCheck}
 use Rattle.refusals.specs.Reply.{numbers, Outcome, replyOf, answered}
 use Rattle.refusals.specs.declared.Fault.{Fault}
@@ -24,6 +24,7 @@ use Rattle.list_format.specs.Lists.{countingNeeds, pairAt, pairsFrom, pa
 use Rattle.list_format.specs.Lists.{differ, headChecks, needChecks, blockChecks, kindChecks, valueChecks, pairChecks, endChecks, pairsChecks}
 use Rattle.list_format.specs.Lists.{bodyChecks, listChecks}
 use Rattle.list_format.specs.Lists.{judged, verdict, NeedsIn, ValuesIn, WrittenIn, IsAccepted, AcceptedList, PairIn, IsWritten, IsPair}
+use Rattle.list_format.proofs.NeedsLaws.{needs-present, needs-absent}
 use Rattle.list_format.specs.declared.Verdict.{Verdict}
 use Rattle.list_format.specs.declared.Verdict.the-variants.{Accepted, Refused}
 
@@ -81,6 +82,10 @@ module _ (ws : List ℕ) where
 -- it stays so with a count of registers that is the same number
 pub still-accepted : {ws : List ℕ} {n m k : ℕ} → k ≡ n → AcceptedList ws n m → AcceptedList ws k m
 still-accepted e a = record { accepted = a .accepted; registersAre = e ∙ a .registersAre; pairsAre = a .pairsAre }
+
+-- the smallest word of needs
+abbrev pub firstNeeds : ℕ
+firstNeeds = kindNeeds * 2 ^ payloadBits
 
 -- ---- the facts behind the checks
 
@@ -275,6 +280,21 @@ module _ (ws : List ℕ) where
   stands k p =
       let h = accepted-in (p .accepted) .head in
       record { few = omega (arith, h .few, p .below); room = omega (arith, h .size, p .below) }
+
+  -- the word after the head is of needs, or else the first of a pair, which is smaller than any of needs
+  pub none-below : word ws 1 < firstNeeds → needWords ws ≡ 0
+  none-below h = needs-absent ws (λ e. omega (arith, e))
+
+  pub needs-from : (k : ℕ) → PairIn ws k → firstNeeds ≤ word ws 1 → needWords ws ≡ registers ws
+  needs-from k p h = go (eqb (kindOf (word ws 1)) kindNeeds) refl
+    where
+      go : (is : Bool) → eqb (kindOf (word ws 1)) kindNeeds ≡ is → needWords ws ≡ registers ws
+      go true e = needs-present ws (eqb-true _ _ e)
+      go false e =
+          let none = needs-absent ws (eqb-false (kindOf (word ws 1)) kindNeeds e) in
+          let first : pairPlace ws 0 ≡ 1 = omega (arith, none) in
+          let kind : kindOf (word ws 1) ≡ kindPair = rw first at (accepted-in (p .accepted) .kinds 0 (omega (arith, p .below)) .kind) in
+          absurd (omega (arith, kind, h))
 
   pub is-written : (k : ℕ) → PairIn ws k → IsWritten ws k (writtenAt ws k)
   is-written k p =

@@ -13,9 +13,11 @@ use Rattle.refusals.specs.Checks.{Check, orCheck, faultAfter, eachCheck}
 use Rattle.refusals.specs.declared.Fault.{Fault}
 use Rattle.refusals.specs.declared.Fault.the-variants.{None, At}
 use Rattle.refusals.specs.Reply.{Reply, Outcome, done, replyOf, unless, answered}
-use Rattle.list_format.specs.Lists.{listChecks, headChecks, pairChecks, endChecks, bodyChecks, registers, pairCount, pairPlace, pairs, word}
+use Rattle.list_format.specs.Lists.{listChecks, headChecks, needChecks, blockChecks, pairChecks, endChecks, pairsChecks, bodyChecks}
+use Rattle.list_format.specs.Lists.{registers, pairCount, needWords, needsOf, noNeeds, pairPlace, placeBy, pairs, word}
 use Rattle.list_format.specs.Read.{reading, readReply}
-use Rattle.list_format.specs.Write.{writing, writeReply, countChecks, givenChecks, givenBody, writeChecks, givenCount}
+use Rattle.list_format.specs.Write.{writing, writeReply, countChecks, givenNeedChecks, givenChecks, givenPairs, givenBody, writeChecks}
+use Rattle.list_format.specs.Write.{givenCount, givenNeeds}
 use Rattle.list_format.specs.RoundTrip.{ReadAs, WrittenAs}
 use Rattle.list_format.specs.declared.Reading.{Reading}
 use Rattle.list_format.specs.declared.Reading.the-variants.{Read, Refused as NotRead}
@@ -80,9 +82,15 @@ done-told xs ys h = h
 list-numbered : (ws : List ℕ) → numbered (listChecks ws) ≡ true
 unfolding numbered
 list-numbered ws =
-    let pairs-numbered = each-numbered (pairChecks ws (registers ws)) (λ k. refl) 0 (pairCount ws) in
-    append-numbered (headChecks (word ws 0) (length ws)) (bodyChecks ws (registers ws) (pairCount ws)) refl
-    (append-numbered (eachCheck (pairChecks ws (registers ws)) 0 (pairCount ws)) (endChecks ws (pairPlace (pairCount ws))) pairs-numbered refl)
+    let n = registers ws in
+    let m = pairCount ws in
+    let needs = needWords ws in
+    append-numbered (headChecks (word ws 0) (word ws 1) (length ws)) (bodyChecks ws n m) refl
+    (append-numbered (blockChecks ws needs) (pairsChecks ws n m)
+    (append-numbered (eachCheck (needChecks ws) 0 needs) ((ltb 0 needs && noNeeds (needsOf ws), 18, 1) ∷ [])
+    (each-numbered (needChecks ws) (λ r. refl) 0 needs) refl)
+    (append-numbered (eachCheck (pairChecks ws n) 0 m) (endChecks ws (pairPlace ws m))
+    (each-numbered (pairChecks ws n) (λ k. refl) 0 m) refl))
 
 -- the checks of the list, then those of the call
 list-then : (ws : List ℕ) (cs : List Check) (o : Outcome) → numbered cs ≡ true → Tellable (replyOf o)
@@ -93,13 +101,16 @@ pub read-told : (ws : List ℕ) (room : ℕ) → Tellable (replyOf (reading ws r
 unfolding reading numbered
 read-told ws room = list-then ws _ _ refl (done-told _ _ (omega arith))
 
-pub write-told : (n : ℕ) (xs : List ℕ) (room : ℕ) → Tellable (replyOf (writing n xs room))
+pub write-told : (n : ℕ) (xs ys : List ℕ) (room : ℕ) → Tellable (replyOf (writing n xs ys room))
 unfolding writing numbered
-write-told n xs room =
-    let pairs-numbered = each-numbered (givenChecks n xs) (λ k. refl) 0 (givenCount xs) in
-    answered-told (writeChecks n xs room) _
-    (append-numbered (countChecks n (length xs)) (givenBody n xs (givenCount xs) room) refl
-    (append-numbered (eachCheck (givenChecks n xs) 0 (givenCount xs)) ((ltb room (pairPlace (givenCount xs) + 1), 2, 0) ∷ []) pairs-numbered refl))
+write-told n xs ys room =
+    let m = givenCount xs in
+    answered-told (writeChecks n xs ys room) _
+    (append-numbered (countChecks n (length xs) (length ys)) (givenBody n xs ys m room) refl
+    (append-numbered (eachCheck (givenNeedChecks ys) 0 n) (givenPairs n xs ys m room)
+    (each-numbered (givenNeedChecks ys) (λ r. refl) 0 n)
+    (append-numbered (eachCheck (givenChecks n xs ys) 0 m) ((ltb room (placeBy (givenNeeds n ys) m + 1), 2, 0) ∷ [])
+    (each-numbered (givenChecks n xs ys) (λ k. refl) 0 m) refl)))
     (done-told _ _ (omega arith))
 
 few : (b : Bool) (x y : ℕ) → length (cond b (x ∷ y ∷ []) []) ≤ valuePlaces
@@ -142,10 +153,10 @@ read-telling {ws} {was} =
 unfoldable pub writeAnswer : Reply → Writing
 writeAnswer = answerBy NotWritten (λ xs. Written (getD xs 0 0))
 
-pub write-telling : {n : ℕ} {xs was now : List ℕ} → Telling writeReply writeAnswer (WrittenAs n xs was now)
+pub write-telling : {n : ℕ} {xs ys was now : List ℕ} → Telling writeReply writeAnswer (WrittenAs n xs ys was now)
 unfolding writeReply writeAnswer answerBy
-write-telling {n} {xs} {was} =
-    telling (elim [ Written count ↦ refl | NotWritten number place ↦ refl ]) (write-told n xs (length was)) (λ a p. p .reply)
+write-telling {n} {xs} {ys} {was} =
+    telling (elim [ Written count ↦ refl | NotWritten number place ↦ refl ]) (write-told n xs ys (length was)) (λ a p. p .reply)
 
 unfoldable pub checkAnswer : Reply → Checking
 checkAnswer = answerBy NotChecked (λ xs. cond (eqb (length xs) 0) Admissible (Broken (getD xs 0 0) (cond (eqb (getD xs 1 0) 0) Setup Hold)))

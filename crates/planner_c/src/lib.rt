@@ -65,7 +65,8 @@ fn rule_number(rule: Rule) -> u64
     }
 }
 
-// Reads a delay list. Reply: the counts of registers and pairs. Four numbers for each pair fill the first places of `answer`.
+// Reads a delay list. Reply: the counts of registers and pairs. Four numbers for each pair fill the first places of `answer`, then two needs
+// for each register.
 #[no_mangle]
 pub extern "C" fn darnerflax_read(
     words: &[u32],
@@ -80,17 +81,20 @@ pub extern "C" fn darnerflax_read(
     }
 }
 
-// Writes the delay list of n registers from four numbers for each pair. Reply: the count of words, which fill the first places of `answer`.
+// Writes the delay list of n registers from four numbers for each pair and two needs for each register. Reply: the count of words, which fill
+// the first places of `answer`.
 #[no_mangle]
 pub extern "C" fn darnerflax_write(
     n: u32,
     numbers: &[u32],
+    needs: &[u32],
     answer: &mut [u32],
     reply: &mut [u64; REPLY_PLACES],
 ) -> u32
-    ensures { λ r. ⌜ AnswerCoded writeReply (WrittenAs n (now (numbers .entry)) (now (answer .entry)) (now (answer .exit))) r (now (reply .exit)) ⌝ }
+    ensures { λ r. ⌜ AnswerCoded writeReply
+        (WrittenAs n (now (numbers .entry)) (now (needs .entry)) (now (answer .entry)) (now (answer .exit))) r (now (reply .exit)) ⌝ }
 {
-    match write_list::write(n, numbers, answer) {
+    match write_list::write(n, numbers, needs, answer) {
         Writing::Refused(number, place) => refuse(reply, number, place),
         Writing::Written(count) => tell(reply, 1, count as u64, 0, 0, 0),
     }

@@ -48,6 +48,14 @@ pub fn front(s: &[u32], count: usize) -> &[u32] {
     s
 }
 
+// The places from `from` on, or all if there are fewer.
+pub fn rest(s: &[u32], from: usize) -> &[u32] {
+    if from <= s.len() {
+        return &s[from..];
+    }
+    s
+}
+
 // Whether the first `count` places are zero.
 pub fn zero(buffer: &[u32], count: usize) -> bool {
     let mut i = 0;

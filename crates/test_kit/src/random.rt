@@ -1,4 +1,7 @@
 // Numbers that look random, and lists of them.
+use crate::rules::hold_of;
+use timing::MAX_DELAY;
+use timing::MAX_NEED;
 ghost use Prim.Native.Nat.{_-_, _^_, _<_, _≤_};
 ghost use Rattle.timing.specs.Limits.{maxPairs};
 
@@ -35,32 +38,53 @@ pub fn put(numbers: &mut [u32], at: usize, a: u32, b: u32, c: u32, d: u32) {
     numbers[at + 3] = d;
 }
 
-// A pair of registers up to `last` and delays up to `most`, stored from `at` on. The answer is the next seed.
-fn pair(seed: u64, last: u32, most: u32, at: usize, numbers: &mut [u32]) -> u64 {
+// Needs up to `most` in every place. The answer is the next seed.
+pub fn needs(seed: u64, most: u32, needs: &mut [u32]) -> u64 {
+    let mut s = seed;
+    let mut i = 0;
+    while i < needs.len() {
+        s = next(s);
+        needs[i] = up_to(s, most);
+        i += 1;
+    }
+    s
+}
+
+// A delay with a hold on top.
+fn with_hold(delay: u32, hold: u32) -> u32 {
+    delay % (MAX_DELAY + 1) + hold % (MAX_NEED + 1)
+}
+
+// A pair of registers up to `last`, and delays up to `most` with the hold of the capture register on top, stored from `at` on.
+// The answer is the next seed.
+fn pair(seed: u64, last: u32, most: u32, needs: &[u32], at: usize, numbers: &mut [u32]) -> u64 {
     let a = next(seed);
     let b = next(a);
     let c = next(b);
     let d = next(c);
+    let capture = up_to(b, last);
+    let hold = hold_of(needs, capture);
     let greatest = up_to(c, most);
+    let least = up_to(d, greatest);
     put(
         numbers,
         at,
         up_to(a, last),
-        up_to(b, last),
-        up_to(d, greatest),
-        greatest,
+        capture,
+        with_hold(least, hold),
+        with_hold(greatest, hold),
     );
     d
 }
 
-// The numbers of `m` pairs. The answer is the next seed.
-pub fn pairs(seed: u64, last: u32, most: u32, m: usize, numbers: &mut [u32]) -> u64
+// The numbers of `m` pairs of registers with such needs. The answer is the next seed.
+pub fn pairs(seed: u64, last: u32, most: u32, m: usize, needs: &[u32], numbers: &mut [u32]) -> u64
     requires { ⌜ m ≤ maxPairs ⌝ }
 {
     let mut s = seed;
     let mut k = 0;
     while k < m {
-        s = pair(s, last, most, 4 * k, numbers);
+        s = pair(s, last, most, needs, 4 * k, numbers);
         k += 1;
     }
     s

@@ -1,4 +1,4 @@
-// The rules of a list straight from its numbers, and schedules counted through one by one.
+// The rules of a list straight from its numbers and its needs, and schedules counted through one by one.
 ghost use Prim.Native.Nat.{_≤_};
 ghost use Rattle.timing.specs.Limits.{maxPairs};
 use timing::MAX_PAIRS;
@@ -19,28 +19,42 @@ fn number(numbers: &[u32], k: usize, j: usize) -> u32 {
     at(numbers, 4 * (k % MAX_PAIRS) + j % 4)
 }
 
-fn setup(numbers: &[u32], k: usize, period: u32, s: &[u32]) -> bool {
-    let a = at(s, number(numbers, k, 0) as usize);
-    let b = at(s, number(numbers, k, 1) as usize);
-    (a as u64) + (number(numbers, k, 3) as u64) <= (b as u64) + (period as u64)
+// What a register needs after the tick, and before it.
+pub fn hold_of(needs: &[u32], register: u32) -> u32 {
+    at(needs, 2 * (register as usize))
 }
 
-fn hold(numbers: &[u32], k: usize, s: &[u32]) -> bool {
+pub fn setup_of(needs: &[u32], register: u32) -> u32 {
+    at(needs, 2 * (register as usize) + 1)
+}
+
+fn setup(numbers: &[u32], needs: &[u32], k: usize, period: u32, s: &[u32]) -> bool {
+    let capture = number(numbers, k, 1);
+    let greatest = number(numbers, k, 3);
     let a = at(s, number(numbers, k, 0) as usize);
-    let b = at(s, number(numbers, k, 1) as usize);
-    (b as u64) <= (a as u64) + (number(numbers, k, 2) as u64)
+    let b = at(s, capture as usize);
+    (a as u64) + (greatest as u64) + (setup_of(needs, capture) as u64)
+        <= (b as u64) + (period as u64)
+}
+
+fn hold(numbers: &[u32], needs: &[u32], k: usize, s: &[u32]) -> bool {
+    let capture = number(numbers, k, 1);
+    let least = number(numbers, k, 2);
+    let a = at(s, number(numbers, k, 0) as usize);
+    let b = at(s, capture as usize);
+    (b as u64) + (hold_of(needs, capture) as u64) <= (a as u64) + (least as u64)
 }
 
 // The first pair that breaks a rule, twice over, and one more if only hold is broken; twice m if there is none.
-pub fn broken(numbers: &[u32], m: usize, period: u32, s: &[u32]) -> usize
+pub fn broken(numbers: &[u32], needs: &[u32], m: usize, period: u32, s: &[u32]) -> usize
     requires { ⌜ m ≤ maxPairs ⌝ }
 {
     let mut k = 0;
     while k < m {
-        if !setup(numbers, k, period, s) {
+        if !setup(numbers, needs, k, period, s) {
             return 2 * k;
         }
-        if !hold(numbers, k, s) {
+        if !hold(numbers, needs, k, s) {
             return 2 * k + 1;
         }
         k += 1;
@@ -97,6 +111,7 @@ fn timings(v: u32, n: usize, offset: u32, s: &mut [u32]) {
 // The first split of n registers that works, up to six of them; its timings are left in s. False if none does.
 pub fn first_split(
     numbers: &[u32],
+    needs: &[u32],
     n: usize,
     m: usize,
     period: u32,
@@ -108,7 +123,7 @@ pub fn first_split(
     let mut v: u32 = 0;
     while v < SPLITS {
         timings(v, n, offset, s);
-        if broken(numbers, m, period, s) == 2 * m {
+        if broken(numbers, needs, m, period, s) == 2 * m {
             return true;
         }
         v += 1;

@@ -3,20 +3,20 @@ use crate::show::reading;
 use crate::show::writing;
 use test_kit::show;
 
-// Reads a list into sixteen places that hold 9, and shows the answer and the first ten places.
+// Reads a list into sixteen places that hold 9, and shows the answer and the first fourteen places.
 fn read(label: &[u8], words: &[u32]) {
     let mut answer = [9u32; 16];
     show::text(label);
     reading(read_list::read(words, &mut answer));
-    show::numbers(&answer, 10);
+    show::numbers(&answer, 14);
 }
 
-// Writes a list into twelve places that hold 9, and shows the answer and the first nine places.
-fn write(label: &[u8], n: u32, numbers: &[u32]) {
+// Writes a list into twelve places that hold 9, and shows the answer and the first eleven places.
+fn write(label: &[u8], n: u32, numbers: &[u32], needs: &[u32]) {
     let mut answer = [9u32; 12];
     show::text(label);
-    writing(write_list::write(n, numbers, &mut answer));
-    show::numbers(&answer, 9);
+    writing(write_list::write(n, numbers, needs, &mut answer));
+    show::numbers(&answer, 11);
 }
 
 // Lists that pass. List P is 0-1 7/10 and 1-0 1/3.
@@ -33,9 +33,31 @@ pub fn lists() {
     ];
     read(b"P: ", &p);
     let numbers = [0u32, 1, 7, 10, 1, 0, 1, 3];
-    write(b"P written: ", 2, &numbers);
+    write(b"P written: ", 2, &numbers, &[0u32, 0, 0, 0]);
     let empty = [0x2000_3000u32, 0xE000_3000];
     read(b"three registers, no pairs: ", &empty);
+}
+
+// Lists with needs that pass: P with hold 1 and setup 2 of register 0, hold 2 and setup 1 of register 1; needs without pairs.
+pub fn needy_lists() {
+    let p = [
+        0x2000_2002u32,
+        0xA000_8001,
+        0xA000_4002,
+        0x4000_0001,
+        0x6000_0007,
+        0x8000_000A,
+        0x4000_0400,
+        0x6000_0001,
+        0x8000_0003,
+        0xE000_E41B,
+    ];
+    read(b"P with needs: ", &p);
+    let numbers = [0u32, 1, 7, 10, 1, 0, 1, 3];
+    write(b"P with needs written: ", 2, &numbers, &[1u32, 2, 2, 1]);
+    let empty = [0x2000_1000u32, 0xA000_0001, 0xE000_1001];
+    read(b"one register with a need, no pairs: ", &empty);
+    write(b"the same written: ", 1, &[], &[1u32, 0]);
 }
 
 // Lists that are refused before their pairs are looked at.
@@ -54,6 +76,10 @@ pub fn refused_lists() {
     read(b"2049 pairs: ", &pairs);
     let count = [0x2000_3001u32, 0xE000_3001];
     read(b"one pair, two words: ", &count);
+    let needs = [0x2000_2000u32, 0xA000_0001, 0xE000_2001];
+    read(b"needs of one register of two: ", &needs);
+    let end = [0x2000_1000u32, 0xA000_1000];
+    read(b"needs in place of the end: ", &end);
 }
 
 // One pair of n registers in three words, with the right head and end.
@@ -67,6 +93,134 @@ fn pair(label: &[u8], n: u32, pair: u32, least: u32, greatest: u32) {
     ];
     list[4] = words::word_of(words::KIND_END, words::end_payload(&list, 4));
     read(label, &list);
+}
+
+// A pair from register 0 to register 1 of two, with the needs of both in two words before it.
+fn needy_pair(label: &[u8], first: u32, second: u32, least: u32, greatest: u32) {
+    let mut list = [
+        words::head_word(2, 1),
+        first,
+        second,
+        0x4000_0001,
+        least,
+        greatest,
+        0,
+    ];
+    list[6] = words::word_of(words::KIND_END, words::end_payload(&list, 6));
+    read(label, &list);
+}
+
+// Words of needs that pass, and those that are refused.
+pub fn needs() {
+    needy_pair(
+        b"needs 9999: ",
+        0xA9C3_E70F,
+        0xA9C3_E70F,
+        0x6000_270F,
+        0x8000_270F,
+    );
+    needy_pair(
+        b"hold 10000: ",
+        0xA000_0001,
+        0xA000_2710,
+        0x6000_2710,
+        0x8000_2710,
+    );
+    needy_pair(
+        b"setup 10000: ",
+        0xA9C4_0000,
+        0xA000_2710,
+        0x6000_2710,
+        0x8000_2710,
+    );
+    needy_pair(
+        b"needs with a spare bit: ",
+        0xB000_0001,
+        0xA000_0001,
+        0x6000_0007,
+        0x8000_000A,
+    );
+    needy_pair(
+        b"second needs of kind 2: ",
+        0xA000_0001,
+        0x4000_0001,
+        0x6000_0007,
+        0x8000_000A,
+    );
+    needy_pair(
+        b"second needs of kind 6: ",
+        0xA000_0000,
+        0xC000_0000,
+        0x6000_0007,
+        0x8000_000A,
+    );
+    needy_pair(
+        b"first needs of kind 4: ",
+        0x8000_0001,
+        0xA000_0001,
+        0x6000_0007,
+        0x8000_000A,
+    );
+    needy_pair(
+        b"needs of zeros: ",
+        0xA000_0000,
+        0xA000_0000,
+        0x6000_0007,
+        0x8000_000A,
+    );
+    needy_pair(
+        b"needs of zeros, 4/3: ",
+        0xA000_0000,
+        0xA000_0000,
+        0x6000_0004,
+        0x8000_0003,
+    );
+}
+
+// A least delay and the hold of the capture register; the hold of the launch register does not matter.
+pub fn holds() {
+    needy_pair(
+        b"least 7, hold 7: ",
+        0xA000_0000,
+        0xA000_0007,
+        0x6000_0007,
+        0x8000_000A,
+    );
+    needy_pair(
+        b"least 7, hold 8: ",
+        0xA000_0000,
+        0xA000_0008,
+        0x6000_0007,
+        0x8000_000A,
+    );
+    needy_pair(
+        b"least 7, launch hold 8: ",
+        0xA000_0008,
+        0xA000_0000,
+        0x6000_0007,
+        0x8000_000A,
+    );
+    needy_pair(
+        b"least 7, setup 8: ",
+        0xA000_0000,
+        0xA002_0000,
+        0x6000_0007,
+        0x8000_000A,
+    );
+    needy_pair(
+        b"4/3, hold 8: ",
+        0xA000_0000,
+        0xA000_0008,
+        0x6000_0004,
+        0x8000_0003,
+    );
+    needy_pair(
+        b"greatest of kind 3, hold 8: ",
+        0xA000_0000,
+        0xA000_0008,
+        0x6000_0007,
+        0x6000_000A,
+    );
 }
 
 // Pairs that pass, and pairs that are refused.
@@ -120,17 +274,65 @@ pub fn kinds() {
 
 // What the writer refuses.
 pub fn refused_writing() {
+    let none = [0u32, 0, 0, 0];
     let five = [0u32, 1, 7, 10, 1];
-    write(b"five numbers: ", 2, &five);
+    write(b"five numbers: ", 2, &five, &none);
     let one = [0u32, 1, 7, 10];
-    write(b"no registers, written: ", 0, &one);
-    write(b"513 registers, written: ", 513, &one);
+    write(b"no registers, written: ", 0, &one, &none);
+    write(b"513 registers, written: ", 513, &one, &none);
     let register = [0u32, 1, 7, 10, 1024, 0, 1, 3];
-    write(b"register 1024 in pair 1: ", 2, &register);
+    write(b"register 1024 in pair 1: ", 2, &register, &none);
     let delay = [0u32, 1, 7, 10, 1, 0, 1, 1_000_001];
-    write(b"delay 1000001 in pair 1: ", 2, &delay);
+    write(b"delay 1000001 in pair 1: ", 2, &delay, &none);
     let order = [0u32, 1, 4, 3];
-    write(b"4/3 in pair 0: ", 2, &order);
+    write(b"4/3 in pair 0: ", 2, &order, &none);
     let four = [0u32, 1, 7, 10, 1, 0, 1, 3, 0, 0, 0, 5, 1, 1, 0, 5];
-    write(b"four pairs in twelve places: ", 2, &four);
+    write(b"four pairs in twelve places: ", 2, &four, &none);
+}
+
+// What the writer refuses of the needs.
+pub fn refused_needs() {
+    let one = [0u32, 1, 7, 10];
+    write(b"three needs of two registers: ", 2, &one, &[1u32, 0, 0]);
+    write(
+        b"five needs of two registers: ",
+        2,
+        &one,
+        &[0u32, 0, 0, 0, 0],
+    );
+    write(b"no registers, three needs: ", 0, &one, &[1u32, 0, 0]);
+    write(
+        b"needs 9999, written: ",
+        2,
+        &[0u32, 1, 9_999, 9_999],
+        &[0u32, 9_999, 9_999, 9_999],
+    );
+    write(
+        b"hold 10000 of register 1: ",
+        2,
+        &one,
+        &[0u32, 0, 10_000, 0],
+    );
+    write(
+        b"setup 10000 of register 0: ",
+        2,
+        &[0u32, 2, 7, 10],
+        &[0u32, 10_000, 10_000, 0],
+    );
+    write(b"hold 7 and least 7: ", 2, &one, &[0u32, 0, 7, 0]);
+    write(
+        b"hold 8 and least 7 in pair 1: ",
+        2,
+        &[1u32, 0, 1, 3, 0, 1, 7, 10],
+        &[0u32, 0, 8, 0],
+    );
+    write(b"4/3 and hold 8: ", 2, &[0u32, 1, 4, 3], &[0u32, 0, 8, 0]);
+    let three = [0u32, 1, 7, 10, 1, 0, 1, 3, 0, 0, 0, 5];
+    write(b"three pairs and no needs: ", 2, &three, &[0u32, 0, 0, 0]);
+    write(
+        b"three pairs and needs in twelve places: ",
+        2,
+        &three,
+        &[0u32, 0, 0, 1],
+    );
 }

@@ -5,12 +5,20 @@ mod trips;
 
 fn main() {
     examples::lists();
+    examples::needy_lists();
     examples::refused_lists();
+    examples::needs();
+    examples::holds();
     examples::pairs();
     examples::kinds();
     examples::refused_writing();
-    trips::small(b"random lists: ", 0);
-    trips::small(b"one word changed: ", 1);
-    trips::small(b"two words changed, the sum kept: ", 2);
-    trips::largest();
+    examples::refused_needs();
+    trips::small(b"random lists: ", 0, 0);
+    trips::small(b"one word changed: ", 1, 0);
+    trips::small(b"two words changed, the sum kept: ", 2, 0);
+    trips::small(b"random lists with needs: ", 0, timing::MAX_NEED);
+    trips::small(b"one word changed: ", 1, timing::MAX_NEED);
+    trips::small(b"two words changed, the sum kept: ", 2, timing::MAX_NEED);
+    trips::largest(b"512 registers, 2048 pairs, words there and back: ", 0);
+    trips::largest(b"the same with needs: ", timing::MAX_NEED);
 }

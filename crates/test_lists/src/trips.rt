@@ -5,24 +5,45 @@ use test_kit::largest;
 use test_kit::places::dirty;
 use test_kit::places::front;
 use test_kit::places::kept;
+use test_kit::places::rest;
 use test_kit::places::same;
 use test_kit::random;
 use test_kit::show;
 use test_kit::tally::Tally;
 use test_kit::tally::Turn;
 
-// Places enough for the numbers, and for the words, of six pairs.
-const SMALL: usize = 24;
+// Places enough for the numbers of six pairs and eight registers, and for their words.
+const SMALL: usize = 40;
+
+// The needs of eight registers.
+const NEEDS: usize = 16;
+
+// The delays are drawn up to this, and a hold comes on top.
+const DELAY: u32 = timing::MAX_DELAY - timing::MAX_NEED;
 
 // How many random lists there are.
 const LISTS: u32 = 2_000;
 
-// Writes the list of n registers and these numbers and reads it back: the same, and later places kept.
+// Whether a buffer holds the numbers, then the needs, and is kept behind them.
+fn holds(buffer: &[u32], numbers: &[u32], needs: &[u32]) -> bool {
+    let behind = rest(buffer, numbers.len());
+    same(numbers, buffer, numbers.len())
+        && same(needs, behind, needs.len())
+        && kept(behind, needs.len())
+}
+
+// Writes the list of n registers with these numbers and needs and reads it back: the same, and later places kept.
 // The answer is the count of words, or 0 if anything is wrong.
-fn there_and_back(n: u32, numbers: &[u32], words: &mut [u32], back: &mut [u32]) -> usize {
+fn there_and_back(
+    n: u32,
+    numbers: &[u32],
+    needs: &[u32],
+    words: &mut [u32],
+    back: &mut [u32],
+) -> usize {
     dirty(words);
     dirty(back);
-    let Writing::Written(count) = write_list::write(n, numbers, words) else {
+    let Writing::Written(count) = write_list::write(n, numbers, needs, words) else {
         return 0;
     };
     let Reading::Read(registers, pairs) = read_list::read(front(words, count), back) else {
@@ -34,13 +55,10 @@ fn there_and_back(n: u32, numbers: &[u32], words: &mut [u32], back: &mut [u32]) 
     if pairs as usize != numbers.len() / 4 {
         return 0;
     }
-    if !same(numbers, back, numbers.len()) {
+    if !holds(back, numbers, needs) {
         return 0;
     }
     if !kept(words, count) {
-        return 0;
-    }
-    if !kept(back, numbers.len()) {
         return 0;
     }
     count
@@ -52,7 +70,8 @@ fn back_and_there(words: &[u32], back: &mut [u32], again: &mut [u32]) -> u32 {
         return 0;
     };
     let many = 4 * (m as usize);
-    let Writing::Written(count) = write_list::write(n, front(back, many), again) else {
+    let needs = front(rest(back, many), 2 * (n as usize));
+    let Writing::Written(count) = write_list::write(n, front(back, many), needs, again) else {
         return 2;
     };
     if count != words.len() {
@@ -97,15 +116,23 @@ fn damage(kind: u32, seed: u64, words: &mut [u32], count: usize) {
     change(words, count, random::next(seed), down(kind, by));
 }
 
-// A random list of up to eight registers and six pairs, there and back, then damaged and read again.
-fn one(kind: u32, seed: u64) -> Turn {
+// A random list of up to eight registers and six pairs, with needs up to `most`, there and back, then damaged and read again.
+fn one(kind: u32, most: u32, seed: u64) -> Turn {
     let mut numbers = [0u32; SMALL];
+    let mut needs = [0u32; NEEDS];
     let mut words = [0u32; SMALL];
     let mut back = [0u32; SMALL];
     let last = random::up_to(seed, 7);
     let m = random::up_to(random::next(seed), 6) as usize;
-    let next = random::pairs(seed, last, timing::MAX_DELAY, m, &mut numbers);
-    let count = there_and_back(last + 1, front(&numbers, 4 * m), &mut words, &mut back);
+    let drawn = random::needs(seed, most, &mut needs);
+    let next = random::pairs(drawn, last, DELAY, m, &needs, &mut numbers);
+    let count = there_and_back(
+        last + 1,
+        front(&numbers, 4 * m),
+        front(&needs, 2 * (last as usize) + 2),
+        &mut words,
+        &mut back,
+    );
     Turn {
         seed: random::next(next),
         fate: fate(kind, seed, count, &mut words),
@@ -124,12 +151,12 @@ fn fate(kind: u32, seed: u64, count: usize, words: &mut [u32]) -> u32 {
 }
 
 // How random lists fare.
-fn lists(kind: u32) -> Tally {
+fn lists(kind: u32, most: u32) -> Tally {
     let mut tally = Tally::none();
     let mut seed: u64 = 1;
     let mut i: u32 = 0;
     while i < LISTS {
-        let t = one(kind, seed);
+        let t = one(kind, most, seed);
         tally = tally.with(t.fate);
         seed = t.seed;
         i += 1;
@@ -137,34 +164,56 @@ fn lists(kind: u32) -> Tally {
     tally
 }
 
-// Random lists, and how they fared.
-pub fn small(label: &[u8], kind: u32) {
-    let t = lists(kind);
+// Random lists with needs up to `most`, and how they fared.
+pub fn small(label: &[u8], kind: u32, most: u32) {
+    let t = lists(kind, most);
     show::text(label);
     show::count(t.zeros, b" refused, ");
     show::count(t.ones, b" the same when written again, ");
     show::count(t.others, b" wrong\n");
 }
 
-// A list of the largest size there and back, and then with one place too few.
-pub fn largest() {
+// A list of the largest size with needs up to `most` there and back, and then with one place too few.
+pub fn largest(label: &[u8], most: u32) {
     let mut numbers = [0u32; largest::NUMBERS];
+    let mut needs = [0u32; largest::NEEDS];
     let mut words = [0u32; largest::WORDS];
-    let mut back = [0u32; largest::NUMBERS];
+    let mut back = [0u32; largest::READ];
+    let drawn = random::needs(7, most, &mut needs);
     random::pairs(
-        7,
+        drawn,
         largest::LAST_REGISTER,
-        timing::MAX_DELAY,
+        DELAY,
         largest::PAIRS,
+        &needs,
         &mut numbers,
     );
-    show::text(b"512 registers, 2048 pairs, words there and back: ");
-    show::number(there_and_back(largest::REGISTERS, &numbers, &mut words, &mut back) as u64);
-    too_short(&numbers);
+    let count = there_and_back(largest::REGISTERS, &numbers, &needs, &mut words, &mut back);
+    show::text(label);
+    show::number(count as u64);
+    too_short(&numbers, &needs, most);
+    too_short_read(front(&words, count));
 }
 
-fn too_short(numbers: &[u32]) {
+// The writer with one place less than it asks for.
+fn too_short(numbers: &[u32], needs: &[u32], most: u32) {
     let mut words = [0u32; largest::WORDS - 1];
-    show::text(b"; in one place less: ");
-    crate::show::writing(write_list::write(largest::REGISTERS, numbers, &mut words));
+    let mut plain_words = [0u32; largest::PLAIN_WORDS - 1];
+    show::text(b"; written in one place less: ");
+    if most == 0 {
+        written(numbers, needs, &mut plain_words);
+        return;
+    }
+    written(numbers, needs, &mut words);
+}
+
+fn written(numbers: &[u32], needs: &[u32], words: &mut [u32]) {
+    crate::show::writing(write_list::write(largest::REGISTERS, numbers, needs, words));
+}
+
+// The reader with one place less.
+fn too_short_read(words: &[u32]) {
+    let mut back = [0u32; largest::READ - 1];
+    show::text(b"read in one place less: ");
+    crate::show::reading(read_list::read(words, &mut back));
 }

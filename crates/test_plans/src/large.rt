@@ -1,7 +1,8 @@
 // Plans of the largest size: 512 registers and 2,048 pairs.
 use planner::Planning;
 use test_kit::largest;
-use test_kit::lists::list;
+use test_kit::lists::needy;
+use test_kit::places::front;
 use test_kit::random;
 use test_kit::show;
 
@@ -18,20 +19,28 @@ fn show_plan(r: Planning) {
     }
 }
 
-// The plan of a random list with delays up to `most`.
-fn plan(label: &[u8], seed: u64, most: u32) {
+// A random list with needs up to `most_need` and delays up to `most`, to which holds are added; the answer is the count of its words.
+fn drawn(seed: u64, most: u32, most_need: u32, words: &mut [u32]) -> usize {
     let mut numbers = [0u32; largest::NUMBERS];
-    let mut words = [0u32; largest::WORDS];
+    let mut needs = [0u32; largest::NEEDS];
+    random::needs(seed, most_need, &mut needs);
     random::pairs(
         seed,
         largest::LAST_REGISTER,
         most,
         largest::PAIRS,
+        &needs,
         &mut numbers,
     );
-    list(largest::REGISTERS, &numbers, &mut words);
+    needy(largest::REGISTERS, &numbers, &needs, words)
+}
+
+// Its plan.
+fn plan(label: &[u8], seed: u64, most: u32, most_need: u32) {
+    let mut words = [0u32; largest::WORDS];
+    let count = drawn(seed, most, most_need, &mut words);
     show::text(label);
-    planned(&words);
+    planned(front(&words, count));
 }
 
 fn planned(words: &[u32]) {
@@ -42,24 +51,23 @@ fn planned(words: &[u32]) {
 
 // With one place of scratch too few.
 fn short(seed: u64) {
-    let mut numbers = [0u32; largest::NUMBERS];
     let mut words = [0u32; largest::WORDS];
     let mut answer = [0u32; largest::ANSWER];
     let mut scratch = [0u32; largest::SCRATCH - 1];
-    random::pairs(
-        seed,
-        largest::LAST_REGISTER,
-        1_000,
-        largest::PAIRS,
-        &mut numbers,
-    );
-    list(largest::REGISTERS, &numbers, &mut words);
+    let count = drawn(seed, 1_000, 1_000, &mut words);
     show::text(b"one place of scratch less: ");
-    show_plan(planner::plan(&words, &mut answer, &mut scratch));
+    show_plan(planner::plan(front(&words, count), &mut answer, &mut scratch));
 }
 
 pub fn lists() {
-    plan(b"512 registers, 2048 pairs, delays to 1000: ", 17, 1_000);
-    plan(b"delays to 1000000: ", 19, timing::MAX_DELAY);
+    plan(b"512 registers, 2048 pairs, delays to 1000: ", 17, 1_000, 0);
+    plan(b"delays to 1000000: ", 19, timing::MAX_DELAY, 0);
+    plan(b"needs to 100, delays to 1100: ", 17, 1_000, 100);
+    plan(
+        b"needs to 9999, delays to 1000000: ",
+        19,
+        timing::MAX_DELAY - timing::MAX_NEED,
+        timing::MAX_NEED,
+    );
     short(17);
 }

@@ -1,4 +1,4 @@
-// Runs the full plan on random small lists against a plain search over all splits and the offsets up to ten, in halves, and
+// Runs the full plan on random small lists against a plain search over all splits and the offsets up to fifteen, in halves, and
 // on lists of the largest size. What it prints is held to the file `stdout`.
 mod large;
 mod search;

@@ -1,10 +1,11 @@
-// Random small lists: no split with an offset up to ten, in halves, beats the plan, and each place of the buffers is right.
+// Random small lists: no split with an offset up to fifteen, in halves, beats the plan, and each place of the buffers is right.
 use free_schedule::FreeAnswer;
 use planner::Planning;
-use test_kit::lists::list;
+use test_kit::lists::needy;
 use test_kit::places::DIRT;
 use test_kit::places::front;
 use test_kit::places::kept;
+use test_kit::places::rest;
 use test_kit::places::same;
 use test_kit::places::zero;
 use test_kit::random;
@@ -15,7 +16,10 @@ ghost use Prim.Native.Nat.{_*_, _≤_};
 ghost use Rattle.timing.specs.Limits.{maxPairs, maxRegisters};
 
 // The largest offset that is tried, in halves of a picosecond.
-const MOST_OFFSET: u32 = 20;
+const MOST_OFFSET: u32 = 30;
+
+// The largest need of the lists with needs.
+const NEED: u32 = 3;
 
 // All times here are far below this, so that they can be doubled.
 const TIMES: u32 = 1_024;
@@ -49,13 +53,29 @@ fn double(numbers: &[u32], at: usize, halves: &mut [u32])
     );
 }
 
+// All needs counted in halves.
+fn doubled_needs(needs: &[u32], halves: &mut [u32]) {
+    let mut i = 0;
+    while i < halves.len() {
+        halves[i] = 2 * (rules::at(needs, i) % TIMES);
+        i += 1;
+    }
+}
+
 // The least offset for which some split works at a period, both in halves; one more than the largest if none does.
-fn least_offset(halves: &[u32], n: usize, m: usize, period: u32, s: &mut [u32]) -> u32
+fn least_offset(
+    halves: &[u32],
+    needs: &[u32],
+    n: usize,
+    m: usize,
+    period: u32,
+    s: &mut [u32],
+) -> u32
     requires { ⌜ m ≤ maxPairs ⌝ }
 {
     let mut offset: u32 = 0;
     while offset <= MOST_OFFSET {
-        if rules::first_split(halves, n, m, period, offset, s) {
+        if rules::first_split(halves, needs, n, m, period, offset, s) {
             return offset;
         }
         offset += 1;
@@ -64,12 +84,12 @@ fn least_offset(halves: &[u32], n: usize, m: usize, period: u32, s: &mut [u32]) 
 }
 
 // Whether no split works at any period from 1 up to one less than this, in whole picoseconds.
-fn none_below(halves: &[u32], n: usize, m: usize, period: u32, s: &mut [u32]) -> bool
+fn none_below(halves: &[u32], needs: &[u32], n: usize, m: usize, period: u32, s: &mut [u32]) -> bool
     requires { ⌜ m ≤ maxPairs ⌝ }
 {
     let mut t: u32 = 1;
     while t < period {
-        if least_offset(halves, n, m, 2 * (t % TIMES), s) <= MOST_OFFSET {
+        if least_offset(halves, needs, n, m, 2 * (t % TIMES), s) <= MOST_OFFSET {
             return false;
         }
         t += 1;
@@ -78,22 +98,26 @@ fn none_below(halves: &[u32], n: usize, m: usize, period: u32, s: &mut [u32]) ->
 }
 
 // Whether no rival has a shorter period, nor at this one a smaller offset.
-fn unbeaten(numbers: &[u32], n: usize, m: usize, two: u32, offset: u32) -> bool
+fn unbeaten(numbers: &[u32], needs: &[u32], n: usize, m: usize, two: u32, offset: u32) -> bool
     requires { ⌜ m ≤ maxPairs ⌝ }
 {
     let mut halves = [0u32; 24];
+    let mut half_needs = [0u32; 12];
     let mut s = [0u32; 6];
     doubled(numbers, m, &mut halves);
-    if !none_below(&halves, n, m, two, &mut s) {
+    doubled_needs(needs, &mut half_needs);
+    if !none_below(&halves, &half_needs, n, m, two, &mut s) {
         return false;
     }
-    least_offset(&halves, n, m, 2 * (two % TIMES), &mut s) == 2 * (offset % TIMES)
+    let least = least_offset(&halves, &half_needs, n, m, 2 * (two % TIMES), &mut s);
+    least == 2 * (offset % TIMES)
 }
 
 // Whether the free timings are those of the free schedule, and the split's those of the first split.
 fn shown(
     words: &[u32],
     numbers: &[u32],
+    needs: &[u32],
     n: usize,
     m: usize,
     free: u32,
@@ -115,19 +139,11 @@ fn shown(
     if !same(answer, &freely, n) {
         return false;
     }
-    rules::first_split(numbers, n, m, two, offset, &mut s) && same(back(answer, n), &s, n)
-}
-
-// The places from `from` on, or all if there are fewer.
-fn back(s: &[u32], from: usize) -> &[u32] {
-    if from <= s.len() {
-        return &s[from..];
-    }
-    s
+    rules::first_split(numbers, needs, n, m, two, offset, &mut s) && same(rest(answer, n), &s, n)
 }
 
 // 1 if the plan of a list is right, else 2.
-fn right(words: &[u32], numbers: &[u32], n: usize, m: usize) -> u32
+fn right(words: &[u32], numbers: &[u32], needs: &[u32], n: usize, m: usize) -> u32
     requires { ⌜ m ≤ maxPairs ⌝ }
     requires { ⌜ n ≤ maxRegisters ⌝ }
 {
@@ -137,10 +153,10 @@ fn right(words: &[u32], numbers: &[u32], n: usize, m: usize) -> u32
     else {
         return 2;
     };
-    if !unbeaten(numbers, n, m, two, offset) {
+    if !unbeaten(numbers, needs, n, m, two, offset) {
         return 2;
     }
-    if !shown(words, numbers, n, m, free, two, offset, &answer) {
+    if !shown(words, numbers, needs, n, m, free, two, offset, &answer) {
         return 2;
     }
     left(&answer, 2 * n, &scratch, 6 * n + 4 * m)
@@ -157,26 +173,34 @@ fn left(answer: &[u32], used: usize, scratch: &[u32], cleared: usize) -> u32 {
     if kept(scratch, cleared) { 1 } else { 2 }
 }
 
-// A random list of up to six registers and six pairs with delays up to nine. Fate 1 is right, 2 wrong.
-fn one(seed: u64) -> Turn {
+// A random list of up to six registers and six pairs with delays up to nine, more with a hold, and needs up to `most`.
+// Fate 1 is right, 2 wrong.
+fn one(seed: u64, most: u32) -> Turn {
     let mut numbers = [0u32; 24];
-    let mut words = [0u32; 20];
+    let mut needs = [0u32; 12];
+    let mut words = [0u32; 26];
     let last = random::up_to(seed, 5);
     let m = random::up_to(random::next(seed), 6) as usize;
-    let next = random::pairs(seed, last, 9, m, &mut numbers);
-    let count = list(last + 1, front(&numbers, 4 * m), &mut words);
+    let drawn = random::needs(seed, most, &mut needs);
+    let next = random::pairs(drawn, last, 9, m, &needs, &mut numbers);
+    let count = needy(
+        last + 1,
+        front(&numbers, 4 * m),
+        front(&needs, 2 * (last as usize) + 2),
+        &mut words,
+    );
     Turn {
         seed: random::next(next),
-        fate: right(front(&words, count), &numbers, last as usize + 1, m),
+        fate: right(front(&words, count), &numbers, &needs, last as usize + 1, m),
     }
 }
 
-fn many() -> Tally {
+fn many(most: u32) -> Tally {
     let mut tally = Tally::none();
     let mut seed: u64 = 11;
     let mut i: u32 = 0;
     while i < LISTS {
-        let t = one(seed);
+        let t = one(seed, most);
         tally = tally.with(t.fate);
         seed = t.seed;
         i += 1;
@@ -185,5 +209,6 @@ fn many() -> Tally {
 }
 
 pub fn lists() {
-    many().tell(b"plans of random lists against all splits and offsets in halves: ");
+    many(0).tell(b"plans of random lists against all splits and offsets in halves: ");
+    many(NEED).tell(b"the same with needs: ");
 }

@@ -3,6 +3,7 @@ use checker::Checking;
 use checker::Rule;
 use free_schedule::FreeAnswer;
 use test_kit::lists::list;
+use test_kit::lists::needy;
 use test_kit::places::front;
 use test_kit::show;
 
@@ -45,6 +46,24 @@ fn free(label: &[u8], n: u32, numbers: &[u32]) {
     show::numbers(&answer, 5);
 }
 
+// The same of a list with needs.
+fn needy_free(label: &[u8], n: u32, numbers: &[u32], needs: &[u32]) {
+    let mut words = [0u32; 32];
+    let mut answer = [9u32; 5];
+    let count = needy(n, numbers, needs, &mut words);
+    show::text(label);
+    show_free(free_schedule::free(front(&words, count), &mut answer));
+    show::numbers(&answer, 5);
+}
+
+// A schedule checked against a list with needs.
+fn needy_check(label: &[u8], n: u32, numbers: &[u32], needs: &[u32], period: u32, timings: &[u32]) {
+    let mut words = [0u32; 32];
+    let count = needy(n, numbers, needs, &mut words);
+    show::text(label);
+    show_check(checker::check(front(&words, count), period, timings));
+}
+
 // A schedule checked against a list.
 fn check(label: &[u8], n: u32, numbers: &[u32], period: u32, timings: &[u32]) {
     let mut words = [0u32; 32];
@@ -67,6 +86,41 @@ pub fn free_schedules() {
     free(b"0-1 twice: ", 2, &[0u32, 1, 7, 10, 0, 1, 2, 4]);
 }
 
+// P with hold 1 and setup 2 of register 0, hold 2 and setup 1 of register 1; and 0-1 10/10 with one need at a time.
+pub fn needy_free_schedules() {
+    let p = [0u32, 1, 7, 10, 1, 0, 1, 3];
+    let one = [0u32, 1, 10, 10];
+    needy_free(b"P with needs: ", 2, &p, &[1u32, 2, 2, 1]);
+    needy_free(b"0-1 10/10, capture hold 4: ", 2, &one, &[0u32, 0, 4, 0]);
+    needy_free(b"0-1 10/10, capture setup 4: ", 2, &one, &[0u32, 0, 0, 4]);
+    needy_free(b"0-1 10/10, launch needs 4: ", 2, &one, &[4u32, 4, 0, 0]);
+    needy_free(
+        b"0-0 2/5, hold 2, setup 3: ",
+        1,
+        &[0u32, 0, 2, 5],
+        &[2u32, 3],
+    );
+    needy_free(b"needs and no pairs: ", 2, &[], &[1u32, 2, 3, 4]);
+    needy_free(
+        b"the longest: ",
+        2,
+        &[0u32, 1, 1_000_000, 1_000_000],
+        &[0u32, 0, 0, 9_999],
+    );
+}
+
+// The rules of P with needs, each met by a whisker and broken by one.
+pub fn needy_checks() {
+    let p = [0u32, 1, 7, 10, 1, 0, 1, 3];
+    let needs = [1u32, 2, 2, 1];
+    needy_check(b"P with needs at 8, 0 3: ", 2, &p, &needs, 8, &[0u32, 3]);
+    needy_check(b"at 8, 0 2: ", 2, &p, &needs, 8, &[0u32, 2]);
+    needy_check(b"at 8, 0 4: ", 2, &p, &needs, 8, &[0u32, 4]);
+    needy_check(b"at 10, 0 5: ", 2, &p, &needs, 10, &[0u32, 5]);
+    needy_check(b"at 11, 0 6: ", 2, &p, &needs, 11, &[0u32, 6]);
+    needy_check(b"at 12, 1 0: ", 2, &p, &needs, 12, &[1u32, 0]);
+}
+
 pub fn checks() {
     let p = [0u32, 1, 7, 10, 1, 0, 1, 3];
     check(b"P at 7, 0 3: ", 2, &p, 7, &[0u32, 3]);
@@ -81,9 +135,10 @@ pub fn checks() {
 pub fn refusals() {
     let p = [0u32, 1, 7, 10, 1, 0, 1, 3];
     check(b"period 0: ", 2, &p, 0, &[0u32, 3]);
-    check(b"period 1000001: ", 2, &p, 1_000_001, &[0u32, 3]);
+    check(b"period 1009999: ", 2, &p, 1_009_999, &[0u32, 3]);
+    check(b"period 1010000: ", 2, &p, 1_010_000, &[0u32, 3]);
     check(b"three timings: ", 2, &p, 7, &[0u32, 3, 0]);
-    check(b"timing 511000000: ", 2, &p, 7, &[511_000_000u32, 0]);
-    check(b"timing 511000001: ", 2, &p, 7, &[0u32, 511_000_001]);
+    check(b"timing 516109489: ", 2, &p, 7, &[516_109_489u32, 0]);
+    check(b"timing 516109490: ", 2, &p, 7, &[0u32, 516_109_490]);
     free(b"six registers in five places: ", 6, &[0u32, 1, 7, 10]);
 }

@@ -1,11 +1,12 @@
 // Chains and rings of 512 registers, along the list and against it.
 use crate::examples::show_free;
 use test_kit::largest;
-use test_kit::lists::list;
+use test_kit::lists;
 use test_kit::places::front;
 use test_kit::random;
 use test_kit::show;
 use timing::MAX_DELAY;
+use timing::MAX_NEED;
 ghost use Prim.Native.Nat.{_<_, _≤_};
 ghost use Rattle.timing.specs.Limits.{maxRegisters};
 
@@ -16,7 +17,7 @@ const CHAIN: usize = RING - 1;
 
 const NUMBERS: usize = 4 * RING;
 
-const WORDS: usize = 3 * RING + 2;
+const WORDS: usize = 4 * RING + 2;
 
 // The launch register of pair k of m: k, or from the other end.
 fn start(m: usize, k: usize, against: bool) -> usize
@@ -50,11 +51,33 @@ fn pairs(m: usize, against: bool, least: u32, greatest: u32, numbers: &mut [u32]
 fn free(label: &[u8], m: usize, against: bool, least: u32, greatest: u32)
     requires { ⌜ m ≤ maxRegisters ⌝ }
 {
+    needy_free(label, m, against, least, greatest, 0, 0);
+}
+
+// The same where each register has these needs.
+fn needy_free(
+    label: &[u8],
+    m: usize,
+    against: bool,
+    least: u32,
+    greatest: u32,
+    hold: u32,
+    setup: u32,
+)
+    requires { ⌜ m ≤ maxRegisters ⌝ }
+{
     let mut numbers = [0u32; NUMBERS];
+    let mut needs = [0u32; largest::NEEDS];
     let mut words = [0u32; WORDS];
     let mut answer = [0u32; RING];
     pairs(m, against, least, greatest, &mut numbers);
-    let count = list(largest::REGISTERS, front(&numbers, 4 * m), &mut words);
+    lists::alike(hold, setup, &mut needs);
+    let count = lists::needy(
+        largest::REGISTERS,
+        front(&numbers, 4 * m),
+        &needs,
+        &mut words,
+    );
     show::text(label);
     show_free(free_schedule::free(front(&words, count), &mut answer));
     show::numbers(&[answer[0], answer[1], answer[RING - 1]], 3);
@@ -81,5 +104,36 @@ pub fn rings() {
         false,
         MAX_DELAY,
         MAX_DELAY,
+    );
+}
+
+// The longest chain and the longest ring with the largest needs.
+pub fn needy() {
+    needy_free(
+        b"chain of 512, 1000000/1000000, setup 9999: ",
+        CHAIN,
+        false,
+        MAX_DELAY,
+        MAX_DELAY,
+        0,
+        MAX_NEED,
+    );
+    needy_free(
+        b"the same against the list, hold 9999 too: ",
+        CHAIN,
+        true,
+        MAX_DELAY,
+        MAX_DELAY,
+        MAX_NEED,
+        MAX_NEED,
+    );
+    needy_free(
+        b"ring of 512, 9999/1000000, hold and setup 9999: ",
+        RING,
+        false,
+        MAX_NEED,
+        MAX_DELAY,
+        MAX_NEED,
+        MAX_NEED,
     );
 }

@@ -7,10 +7,13 @@ mod search;
 
 fn main() {
     examples::free_schedules();
+    examples::needy_free_schedules();
     examples::checks();
+    examples::needy_checks();
     examples::refusals();
     search::free_schedules();
     search::checks();
     large::chains();
     large::rings();
+    large::needy();
 }

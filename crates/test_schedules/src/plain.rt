@@ -21,10 +21,18 @@ fn below(a: &[u32], b: &[u32], n: usize) -> bool {
 }
 
 // Of one schedule: 0 if it breaks a rule, 1 if it works and `best` is nowhere later, 2 if it works and is somewhere earlier.
-fn judged(numbers: &[u32], n: usize, m: usize, period: u32, s: &[u32], best: &[u32]) -> u32
+fn judged(
+    numbers: &[u32],
+    needs: &[u32],
+    n: usize,
+    m: usize,
+    period: u32,
+    s: &[u32],
+    best: &[u32],
+) -> u32
     requires { ⌜ m ≤ maxPairs ⌝ }
 {
-    if broken(numbers, m, period, s) < 2 * m {
+    if broken(numbers, needs, m, period, s) < 2 * m {
         return 0;
     }
     if below(best, s, n) { 1 } else { 2 }
@@ -37,6 +45,7 @@ fn larger(a: u32, b: u32) -> u32 {
 // The most of that over all schedules of timings up to most.
 pub fn searched(
     numbers: &[u32],
+    needs: &[u32],
     n: usize,
     m: usize,
     period: u32,
@@ -49,7 +58,7 @@ pub fn searched(
     let mut found = 0;
     let mut left: u32 = SCHEDULES;
     while left > 0 {
-        found = larger(found, judged(numbers, n, m, period, s, best));
+        found = larger(found, judged(numbers, needs, n, m, period, s, best));
         if !advance(s, n, most) {
             return found;
         }

@@ -3,7 +3,7 @@ use crate::plain;
 use checker::Checking;
 use checker::Rule;
 use free_schedule::FreeAnswer;
-use test_kit::lists::list;
+use test_kit::lists::needy;
 use test_kit::places::front;
 use test_kit::random;
 use test_kit::rules;
@@ -20,6 +20,9 @@ const LISTS: u32 = 1_000;
 // The latest timing of the schedules that the search for a free schedule goes through.
 const LATEST: u32 = 10;
 
+// The largest need of the lists with needs.
+const NEED: u32 = 3;
+
 // The period at which schedules are checked, the latest timing of these, and how many there are at the most.
 const PERIOD: u32 = 3;
 
@@ -31,20 +34,20 @@ const SCHEDULES: u32 = 1_000;
 const REFUSED: usize = 1_000_000;
 
 // Whether the search finds no schedule at a period.
-fn none(numbers: &[u32], n: usize, m: usize, period: u32) -> bool
+fn none(numbers: &[u32], needs: &[u32], n: usize, m: usize, period: u32) -> bool
     requires { ⌜ m ≤ maxPairs ⌝ }
 {
     let mut s = [0u32; 3];
-    plain::searched(numbers, n, m, period, LATEST, &[0u32, 0, 0], &mut s) == 0
+    plain::searched(numbers, needs, n, m, period, LATEST, &[0u32, 0, 0], &mut s) == 0
 }
 
 // Whether it finds none at any period from 1 up to one less.
-fn none_below(numbers: &[u32], n: usize, m: usize, period: u32) -> bool
+fn none_below(numbers: &[u32], needs: &[u32], n: usize, m: usize, period: u32) -> bool
     requires { ⌜ m ≤ maxPairs ⌝ }
 {
     let mut t = 1;
     while t < period {
-        if !none(numbers, n, m, t) {
+        if !none(numbers, needs, n, m, t) {
             return false;
         }
         t += 1;
@@ -53,7 +56,7 @@ fn none_below(numbers: &[u32], n: usize, m: usize, period: u32) -> bool
 }
 
 // Whether the free period and schedule are what the search finds.
-fn free_right(numbers: &[u32], n: usize, m: usize, words: &[u32]) -> u32
+fn free_right(numbers: &[u32], needs: &[u32], n: usize, m: usize, words: &[u32]) -> u32
     requires { ⌜ m ≤ maxPairs ⌝ }
 {
     let mut answer = [9u32; 3];
@@ -61,13 +64,13 @@ fn free_right(numbers: &[u32], n: usize, m: usize, words: &[u32]) -> u32
     let FreeAnswer::Periods(_, free) = free_schedule::free(words, &mut answer) else {
         return 2;
     };
-    if !none_below(numbers, n, m, free) {
+    if !none_below(numbers, needs, n, m, free) {
         return 2;
     }
-    if rules::broken(numbers, m, free, &answer) < 2 * m {
+    if rules::broken(numbers, needs, m, free, &answer) < 2 * m {
         return 2;
     }
-    plain::searched(numbers, n, m, free, LATEST, &answer, &mut s)
+    plain::searched(numbers, needs, n, m, free, LATEST, &answer, &mut s)
 }
 
 // What a check says, as the plain search numbers it.
@@ -85,12 +88,19 @@ fn checked(words: &[u32], m: usize, period: u32, s: &[u32]) -> usize
 }
 
 // Whether the check says of each schedule what the plain rules say.
-fn check_right(numbers: &[u32], n: usize, m: usize, words: &[u32], s: &mut [u32]) -> u32
+fn check_right(
+    numbers: &[u32],
+    needs: &[u32],
+    n: usize,
+    m: usize,
+    words: &[u32],
+    s: &mut [u32],
+) -> u32
     requires { ⌜ m ≤ maxPairs ⌝ }
 {
     let mut left: u32 = SCHEDULES;
     while left > 0 {
-        if checked(words, m, PERIOD, front(s, n)) != rules::broken(numbers, m, PERIOD, s) {
+        if checked(words, m, PERIOD, front(s, n)) != rules::broken(numbers, needs, m, PERIOD, s) {
             return 2;
         }
         if !rules::advance(s, n, LATEST_CHECKED) {
@@ -101,19 +111,27 @@ fn check_right(numbers: &[u32], n: usize, m: usize, words: &[u32], s: &mut [u32]
     2
 }
 
-// A random list of up to three registers and four pairs with delays up to five: its free schedule or the check of it.
-// Fate 1 is right, 2 wrong.
-fn one(seed: u64, checking: bool) -> Turn {
+// A random list of up to three registers and four pairs with delays up to five, more with a hold, and needs up to `most`:
+// its free schedule or the check of it. Fate 1 is right, 2 wrong.
+fn one(seed: u64, most: u32, checking: bool) -> Turn {
     let mut numbers = [0u32; 16];
-    let mut words = [0u32; 16];
+    let mut needs = [0u32; 6];
+    let mut words = [0u32; 17];
     let last = random::up_to(seed, 2);
     let m = random::up_to(random::next(seed), 4) as usize;
-    let next = random::pairs(seed, last, 5, m, &mut numbers);
-    let count = list(last + 1, front(&numbers, 4 * m), &mut words);
+    let drawn = random::needs(seed, most, &mut needs);
+    let next = random::pairs(drawn, last, 5, m, &needs, &mut numbers);
+    let count = needy(
+        last + 1,
+        front(&numbers, 4 * m),
+        front(&needs, 2 * (last as usize) + 2),
+        &mut words,
+    );
     Turn {
         seed: random::next(next),
         fate: fate(
             &numbers,
+            &needs,
             last as usize + 1,
             m,
             front(&words, count),
@@ -122,22 +140,22 @@ fn one(seed: u64, checking: bool) -> Turn {
     }
 }
 
-fn fate(numbers: &[u32], n: usize, m: usize, words: &[u32], checking: bool) -> u32
+fn fate(numbers: &[u32], needs: &[u32], n: usize, m: usize, words: &[u32], checking: bool) -> u32
     requires { ⌜ m ≤ maxPairs ⌝ }
 {
     let mut s = [0u32; 3];
     if checking {
-        return check_right(numbers, n, m, words, &mut s);
+        return check_right(numbers, needs, n, m, words, &mut s);
     }
-    free_right(numbers, n, m, words)
+    free_right(numbers, needs, n, m, words)
 }
 
-fn lists(checking: bool) -> Tally {
+fn lists(most: u32, checking: bool) -> Tally {
     let mut tally = Tally::none();
     let mut seed: u64 = 3;
     let mut i: u32 = 0;
     while i < LISTS {
-        let t = one(seed, checking);
+        let t = one(seed, most, checking);
         tally = tally.with(t.fate);
         seed = t.seed;
         i += 1;
@@ -155,10 +173,15 @@ fn tell(label: &[u8], t: Tally) {
 pub fn free_schedules() {
     tell(
         b"free schedules of random lists against a search: ",
-        lists(false),
+        lists(0, false),
     );
+    tell(b"the same with needs: ", lists(NEED, false));
 }
 
 pub fn checks() {
-    tell(b"checks of random lists against the rules: ", lists(true));
+    tell(
+        b"checks of random lists against the rules: ",
+        lists(0, true),
+    );
+    tell(b"the same with needs: ", lists(NEED, true));
 }

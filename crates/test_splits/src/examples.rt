@@ -1,6 +1,6 @@
 // Worked examples.
 use split::Splitting;
-use test_kit::lists::list;
+use test_kit::lists::needy;
 use test_kit::places::front;
 use test_kit::show;
 
@@ -12,12 +12,19 @@ pub fn show_split(r: Splitting) {
     }
 }
 
-// A list at a period and an offset, with four places for the answer that held 9 and as much scratch as is asked for.
+// A list without needs at a period and an offset.
 fn try_at(label: &[u8], n: u32, numbers: &[u32], period: u32, offset: u32) {
+    let none = [0u32; 10];
+    let needs = front(&none, 2 * (n as usize));
+    try_needy(label, n, numbers, needs, period, offset);
+}
+
+// A list at a period and an offset, with four places for the answer that held 9 and as much scratch as is asked for.
+fn try_needy(label: &[u8], n: u32, numbers: &[u32], needs: &[u32], period: u32, offset: u32) {
     let mut words = [0u32; 32];
     let mut answer = [9u32; 4];
     let mut scratch = [9u32; 32];
-    let count = list(n, numbers, &mut words);
+    let count = needy(n, numbers, needs, &mut words);
     show::text(label);
     show_split(split::split(
         front(&words, count),
@@ -41,11 +48,51 @@ pub fn splits() {
     try_at(b"0-0 0/5 at 4 and 3: ", 1, &[0u32, 0, 0, 5], 4, 3);
 }
 
+// P with hold 1 and setup 2 of register 0, hold 2 and setup 1 of register 1: an offset of 3 alone at 8, of 1 to 5 at 10.
+pub fn needy_splits() {
+    let p = [0u32, 1, 7, 10, 1, 0, 1, 3];
+    let needs = [1u32, 2, 2, 1];
+    try_needy(b"P with needs at 7 and 3: ", 2, &p, &needs, 7, 3);
+    try_needy(b"at 8 and 2: ", 2, &p, &needs, 8, 2);
+    try_needy(b"at 8 and 3: ", 2, &p, &needs, 8, 3);
+    try_needy(b"at 8 and 4: ", 2, &p, &needs, 8, 4);
+    try_needy(b"at 10 and 5: ", 2, &p, &needs, 10, 5);
+    try_needy(b"at 10 and 6: ", 2, &p, &needs, 10, 6);
+    let longest = [0u32, 1, 1_000_000, 1_000_000];
+    let most = [0u32, 0, 0, 9_999];
+    try_needy(
+        b"the longest at 9999 and 1000000: ",
+        2,
+        &longest,
+        &most,
+        9_999,
+        1_000_000,
+    );
+    try_needy(
+        b"at 9998 and 1000000: ",
+        2,
+        &longest,
+        &most,
+        9_998,
+        1_000_000,
+    );
+    try_needy(
+        b"at 1009999 and 1009999: ",
+        2,
+        &longest,
+        &most,
+        1_009_999,
+        1_009_999,
+    );
+}
+
 pub fn refusals() {
     let p = [0u32, 1, 7, 10, 1, 0, 1, 3];
     try_at(b"period 0: ", 2, &p, 0, 3);
-    try_at(b"period 1000001: ", 2, &p, 1_000_001, 3);
-    try_at(b"offset 1000001: ", 2, &p, 7, 1_000_001);
+    try_at(b"period 1009999: ", 2, &p, 1_009_999, 3);
+    try_at(b"period 1010000: ", 2, &p, 1_010_000, 3);
+    try_at(b"offset 1009999: ", 2, &p, 7, 1_009_999);
+    try_at(b"offset 1010000: ", 2, &p, 7, 1_010_000);
     try_at(b"five registers in four places: ", 5, &p, 7, 3);
     try_at(
         b"too little scratch: ",

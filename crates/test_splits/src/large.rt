@@ -1,7 +1,8 @@
 // Chains of 512 registers, along the list and against it: one late register makes all after it late.
 use crate::examples::show_split;
 use test_kit::largest;
-use test_kit::lists::list;
+use test_kit::lists;
+use test_kit::places::front;
 use test_kit::random;
 use test_kit::show;
 ghost use Prim.Native.Nat.{_+_, _<_, _≤_};
@@ -12,7 +13,7 @@ const CHAIN: usize = largest::TIMINGS - 1;
 
 const NUMBERS: usize = 4 * CHAIN;
 
-const WORDS: usize = 3 * CHAIN + 2;
+const WORDS: usize = 3 * CHAIN + 2 + largest::TIMINGS;
 
 const SCRATCH: usize = 6 * largest::TIMINGS + NUMBERS;
 
@@ -56,20 +57,38 @@ fn pairs(against: bool, numbers: &mut [u32]) {
     }
 }
 
+// The largest need of the chains.
+const NEED: u32 = 2;
+
 // The chain at the period and the offset, and the timings of the first, the second and the last register.
 fn chain(label: &[u8], against: bool) {
+    needy_chain(label, against, 0);
+}
+
+// The same where each register has this need for hold and for setup, which comes on top of the period.
+fn needy_chain(label: &[u8], against: bool, need: u32) {
     let mut numbers = [0u32; NUMBERS];
+    let mut needs = [0u32; largest::NEEDS];
     let mut words = [0u32; WORDS];
     let mut answer = [9u32; largest::TIMINGS];
     let mut scratch = [9u32; SCRATCH];
     pairs(against, &mut numbers);
-    list(largest::REGISTERS, &numbers, &mut words);
+    lists::alike(need, need, &mut needs);
+    let count = lists::needy(largest::REGISTERS, &numbers, &needs, &mut words);
+    let period = PERIOD + need % (NEED + 1);
     show::text(label);
-    show_split(split::split(&words, PERIOD, OFFSET, &mut answer, &mut scratch));
+    show_split(split::split(
+        front(&words, count),
+        period,
+        OFFSET,
+        &mut answer,
+        &mut scratch,
+    ));
     show::numbers(&[answer[0], answer[1], answer[CHAIN]], 3);
 }
 
 pub fn chains() {
     chain(b"chain of 512: ", false);
     chain(b"the same against the list: ", true);
+    needy_chain(b"the same with needs: ", true, NEED);
 }

@@ -6,6 +6,7 @@ mod search;
 
 fn main() {
     examples::splits();
+    examples::needy_splits();
     examples::refusals();
     search::lists();
     large::chains();

@@ -1,6 +1,6 @@
 // Random small lists at every period and offset up to fifteen, against a plain search over all splits.
 use split::Splitting;
-use test_kit::lists::list;
+use test_kit::lists::needy;
 use test_kit::places::DIRT;
 use test_kit::places::front;
 use test_kit::places::kept;
@@ -18,6 +18,9 @@ const MOST: u32 = 15;
 
 // How many random lists there are.
 const LISTS: u32 = 500;
+
+// The largest need of the lists with needs.
+const NEED: u32 = 3;
 
 // Whether the answer is right: the split or the buffer as it was, and the scratch zero where it was used.
 fn right(
@@ -43,26 +46,34 @@ fn right(
 }
 
 // One period and one offset.
-fn tried(words: &[u32], numbers: &[u32], n: usize, m: usize, period: u32, offset: u32) -> bool
+fn tried(
+    words: &[u32],
+    numbers: &[u32],
+    needs: &[u32],
+    n: usize,
+    m: usize,
+    period: u32,
+    offset: u32,
+) -> bool
     requires { ⌜ m ≤ maxPairs ⌝ }
     requires { ⌜ n ≤ maxRegisters ⌝ }
 {
     let mut answer = [DIRT; 6];
     let mut scratch = [DIRT; 50];
     let mut s = [0u32; 4];
-    let yes = rules::first_split(numbers, n, m, period, offset, &mut s);
+    let yes = rules::first_split(numbers, needs, n, m, period, offset, &mut s);
     let r = split::split(words, period, offset, &mut answer, &mut scratch);
     right(yes, r, &s, n, 6 * n + 4 * m, &answer, &scratch)
 }
 
 // Every offset at one period.
-fn offsets(words: &[u32], numbers: &[u32], n: usize, m: usize, period: u32) -> bool
+fn offsets(words: &[u32], numbers: &[u32], needs: &[u32], n: usize, m: usize, period: u32) -> bool
     requires { ⌜ m ≤ maxPairs ⌝ }
     requires { ⌜ n ≤ maxRegisters ⌝ }
 {
     let mut offset: u32 = 0;
     while offset <= MOST {
-        if !tried(words, numbers, n, m, period, offset) {
+        if !tried(words, numbers, needs, n, m, period, offset) {
             return false;
         }
         offset += 1;
@@ -71,13 +82,13 @@ fn offsets(words: &[u32], numbers: &[u32], n: usize, m: usize, period: u32) -> b
 }
 
 // Every period: 1 if all is right, else 2.
-fn periods(words: &[u32], numbers: &[u32], n: usize, m: usize) -> u32
+fn periods(words: &[u32], numbers: &[u32], needs: &[u32], n: usize, m: usize) -> u32
     requires { ⌜ m ≤ maxPairs ⌝ }
     requires { ⌜ n ≤ maxRegisters ⌝ }
 {
     let mut period: u32 = 1;
     while period <= MOST {
-        if !offsets(words, numbers, n, m, period) {
+        if !offsets(words, numbers, needs, n, m, period) {
             return 2;
         }
         period += 1;
@@ -85,26 +96,34 @@ fn periods(words: &[u32], numbers: &[u32], n: usize, m: usize) -> u32
     1
 }
 
-// A random list of up to four registers and five pairs with delays up to twelve. Fate 1 is right, 2 wrong.
-fn one(seed: u64) -> Turn {
+// A random list of up to four registers and five pairs with delays up to twelve less the largest hold, which is then added, and
+// needs up to `most`. Fate 1 is right, 2 wrong.
+fn one(seed: u64, most: u32) -> Turn {
     let mut numbers = [0u32; 20];
-    let mut words = [0u32; 20];
+    let mut needs = [0u32; 8];
+    let mut words = [0u32; 21];
     let last = random::up_to(seed, 3);
     let m = random::up_to(random::next(seed), 5) as usize;
-    let next = random::pairs(seed, last, 12, m, &mut numbers);
-    let count = list(last + 1, front(&numbers, 4 * m), &mut words);
+    let drawn = random::needs(seed, most, &mut needs);
+    let next = random::pairs(drawn, last, 12 - most % 4, m, &needs, &mut numbers);
+    let count = needy(
+        last + 1,
+        front(&numbers, 4 * m),
+        front(&needs, 2 * (last as usize) + 2),
+        &mut words,
+    );
     Turn {
         seed: random::next(next),
-        fate: periods(front(&words, count), &numbers, last as usize + 1, m),
+        fate: periods(front(&words, count), &numbers, &needs, last as usize + 1, m),
     }
 }
 
-fn many() -> Tally {
+fn many(most: u32) -> Tally {
     let mut tally = Tally::none();
     let mut seed: u64 = 5;
     let mut i: u32 = 0;
     while i < LISTS {
-        let t = one(seed);
+        let t = one(seed, most);
         tally = tally.with(t.fate);
         seed = t.seed;
         i += 1;
@@ -113,5 +132,6 @@ fn many() -> Tally {
 }
 
 pub fn lists() {
-    many().tell(b"random lists at 240 periods and offsets each, against all splits: ");
+    many(0).tell(b"random lists at 240 periods and offsets each, against all splits: ");
+    many(NEED).tell(b"the same with needs: ");
 }

@@ -11,7 +11,7 @@ use crate::trails::{least_timings, longest_cycle, Fraction};
 
 fn try_plan(random: &mut Random, words: &[u32], tally: &mut Tally) {
     let decoded = decode(words);
-    let (n, need) = decoded.as_ref().map_or((3, 9), |net| (net.registers, net.scratch()));
+    let (n, need) = decoded.as_ref().map_or((3, 9), |net| (net.registers(), net.scratch()));
     let (room, spare) = (random.room(2 * n).max(random.pick(&[0, 2 * n])), random.room(need).max(random.pick(&[0, need])));
     let mut list = Lent::input(random, words);
     let (mut answer, mut scratch) = (Lent::new(random, room), Lent::new(random, spare));
@@ -58,11 +58,12 @@ fn small_nets_planned() {
     let mut tally = Tally::default();
     for _ in 0..100_000 {
         let delay = random.pick(&[6, 40, 1_000_000]);
-        let net = net(&mut random, Size { registers: 10, pairs: 14, delay });
+        let need = random.pick(&[3, 9_999]);
+        let net = net(&mut random, Size { registers: 10, pairs: 14, delay, need });
         let words = words(&mut random, &net);
         try_plan(&mut random, &words, &mut tally);
     }
-    tally.all_met("small nets planned", &planned(&["1", "2", "11", "12", "13", "14", "15", "16", "17"]));
+    tally.all_met("small nets planned", &planned(&["1", "2", "11", "12", "13", "14", "15", "16", "17", "18", "19"]));
 }
 
 #[test]
@@ -71,21 +72,23 @@ fn middle_nets_planned() {
     let mut tally = Tally::default();
     for _ in 0..10_000 {
         let delay = random.pick(&[30, 1_000, 1_000_000]);
-        let net = net(&mut random, Size { registers: 80, pairs: 120, delay });
+        let need = random.pick(&[30, 9_999]);
+        let net = net(&mut random, Size { registers: 80, pairs: 120, delay, need });
         let words = words(&mut random, &net);
         try_plan(&mut random, &words, &mut tally);
     }
-    tally.all_met("middle nets planned", &planned(&["1", "2", "11", "12", "13", "14", "15", "16", "17"]));
+    tally.all_met("middle nets planned", &planned(&["1", "2", "11", "12", "13", "14", "15", "16", "17", "18", "19"]));
 }
 
 #[test]
 fn full_nets_planned() {
     let mut random = Random::new(33);
     let mut tally = Tally::default();
-    for _ in 0..800 {
+    for _ in 0..1_600 {
         let delay = random.pick(&[30, 1_000, 1_000_000]);
         let m = random.pick(&[2_048, 600, 512, 511]);
-        let net = exact_net(&mut random, 512, m, delay);
+        let need = random.pick(&[30, 9_999]);
+        let net = exact_net(&mut random, 512, m, delay, need);
         try_plan(&mut random, &encode(&net), &mut tally);
     }
     tally.all_met("full nets planned", &planned(&["1", "2"]));
@@ -98,13 +101,13 @@ fn tiny_nets_planned_plainly() {
     let mut random = Random::new(34);
     let mut tally = Tally::default();
     for _ in 0..40_000 {
-        let net = net(&mut random, Size { registers: 6, pairs: 9, delay: 8 });
+        let net = net(&mut random, Size { registers: 6, pairs: 9, delay: 8, need: 3 });
         let (two, offset) = net.plain_two();
         let free = longest_cycle(&net).map_or(1, Fraction::whole);
         let expected = Plan { common: net.common(), free, two, offset };
         let mut stored = least_timings(&net, free);
         stored.extend(net.plain_split(two, offset).expect("the search found one"));
-        let (mut answer, mut scratch) = (Lent::new(&mut random, 2 * net.registers), Lent::new(&mut random, net.scratch()));
+        let (mut answer, mut scratch) = (Lent::new(&mut random, 2 * net.registers()), Lent::new(&mut random, net.scratch()));
         assert_eq!(plan(&encode(&net), answer.slice(), scratch.slice()), Ok(expected), "{net:?}");
         assert!(answer.holds(&stored) && scratch.holds(&vec![0; net.scratch()]), "{net:?}");
         for parts in [2, 3, 5] {
@@ -125,10 +128,11 @@ fn no_fraction_beats(net: &Net, shorter: u32, period: u32, least: u32) {
     assert!((0..least).all(|offset| net.plain_split(period, offset).is_none()), "{net:?}");
 }
 
-const SHAPES: &[&str] = &["six registers", "no pairs", "a register to itself", "a pair twice"];
+const SHAPES: &[&str] = &["six registers", "no pairs", "a register to itself", "a pair twice", "needs"];
 
 fn count_shapes(net: &Net, tally: &mut Tally) {
     let ends: BTreeSet<_> = net.pairs.iter().map(|p| (p.launch, p.capture)).collect();
-    let met = [net.registers == 6, ends.is_empty(), ends.iter().any(|(a, b)| a == b), ends.len() < net.pairs.len()];
+    let itself = ends.iter().any(|(a, b)| a == b);
+    let met = [net.registers() == 6, ends.is_empty(), itself, ends.len() < net.pairs.len(), net.needy()];
     SHAPES.iter().zip(met).filter(|(_, met)| *met).for_each(|(shape, _)| tally.count(*shape));
 }

@@ -1,5 +1,5 @@
 //! Random numbers with a fixed seed, random lists of several shapes, and damage.
-use crate::reference::{encode, sealed, Net, Pair};
+use crate::reference::{encode, need_word, sealed, Need, Net, Pair};
 
 pub struct Random(u64);
 
@@ -48,12 +48,13 @@ impl Random {
     }
 }
 
-/// At most so many registers and pairs, with delays up to `delay`.
+/// At most so many registers and pairs, with delays up to `delay` and needs up to `need`.
 #[derive(Clone, Copy)]
 pub struct Size {
     pub registers: usize,
     pub pairs: usize,
     pub delay: u32,
+    pub need: u32,
 }
 
 /// A net of a random shape: any two registers, a chain, a chain listed from its end, a ring, two rows with rungs, or a chain
@@ -61,12 +62,13 @@ pub struct Size {
 pub fn net(random: &mut Random, size: Size) -> Net {
     let n = 1 + random.below(size.registers);
     let m = random.below(size.pairs + 1);
-    exact_net(random, n, m, size.delay)
+    exact_net(random, n, m, size.delay, size.need)
 }
 
-pub fn exact_net(random: &mut Random, n: usize, m: usize, delay: u32) -> Net {
+pub fn exact_net(random: &mut Random, n: usize, m: usize, delay: u32, need: u32) -> Net {
     let shape = random.below(6);
     let tight = random.below(4) as u32;
+    let needs = needs(random, n, delay, need);
     let mut pairs: Vec<Pair> = (0..m)
         .map(|k| {
             let (launch, capture) = match shape {
@@ -77,30 +79,52 @@ pub fn exact_net(random: &mut Random, n: usize, m: usize, delay: u32) -> Net {
                 4 => ((k + k % 2) % n, (k + 1 - k % 2) % n),
                 _ => (k % n, (k + n / 2 + random.below(2)) % n),
             };
-            let greatest = random.upto(delay);
+            let hold = needs[capture].hold;
+            let greatest = hold + random.upto(delay - hold);
             let least = match tight {
                 0 => random.upto(greatest),
                 1 => greatest - random.upto(greatest / 4),
                 2 => greatest,
                 _ => random.upto(greatest / 2),
             };
-            Pair { launch, capture, least, greatest }
+            Pair { launch, capture, least: least.max(hold), greatest }
         })
         .collect();
+    let mut net = Net { needs, pairs: vec![] };
     if random.one_in(3) {
-        mix(random, n, &mut pairs);
+        mix(random, &mut net.needs, &mut pairs);
     }
-    Net { registers: n, pairs }
+    net.pairs = pairs;
+    net
 }
 
-/// Registers renumbered and pairs shuffled.
-fn mix(random: &mut Random, n: usize, pairs: &mut [Pair]) {
-    let mut names: Vec<usize> = (0..n).collect();
+/// Needs up to `need`: in half of all cases none at all, else of one register, holds or setups only, or both; no hold is above `delay`.
+fn needs(random: &mut Random, n: usize, delay: u32, need: u32) -> Vec<Need> {
+    let kind = random.below(8);
+    let only = random.below(n);
+    let mut draw = |most: u32| if random.one_in(4) { most } else { random.upto(most) };
+    let (most_hold, most_setup) = (need.min(delay), need);
+    (0..n)
+        .map(|r| match kind {
+            0..=3 => Need::default(),
+            4 if r != only => Need::default(),
+            5 => Need { hold: draw(most_hold), setup: 0 },
+            6 => Need { hold: 0, setup: draw(most_setup) },
+            _ => Need { hold: draw(most_hold), setup: draw(most_setup) },
+        })
+        .collect()
+}
+
+/// Registers renumbered, each with its needs, and pairs shuffled.
+fn mix(random: &mut Random, needs: &mut Vec<Need>, pairs: &mut [Pair]) {
+    let mut names: Vec<usize> = (0..needs.len()).collect();
     shuffle(random, &mut names);
     shuffle(random, pairs);
     for p in pairs {
         (p.launch, p.capture) = (names[p.launch], names[p.capture]);
     }
+    let before = needs.clone();
+    names.iter().zip(before).for_each(|(name, need)| needs[*name] = need);
 }
 
 fn shuffle<T>(random: &mut Random, xs: &mut [T]) {
@@ -128,15 +152,23 @@ pub fn damaged(random: &mut Random, net: &Net) -> Vec<u32> {
 }
 
 fn damage(random: &mut Random, net: &Net, words: &mut Vec<u32>) {
-    let len = words.len();
-    let n = net.registers as u32;
-    if len == 0 {
+    if words.is_empty() {
         return words.push(random.word());
     }
+    match random.below(3) {
+        0 => damage_any(random, words),
+        1 => damage_pair(random, net, words),
+        _ => damage_needs(random, net, words),
+    }
+    if random.one_in(2) {
+        sealed(words);
+    }
+}
+
+fn damage_any(random: &mut Random, words: &mut Vec<u32>) {
+    let len = words.len();
     let at = random.below(len);
-    let pair = 1 + 3 * random.below(net.pairs.len() + 1);
-    let inside = |k: usize| if k < len { k } else { len - 1 };
-    match random.below(14) {
+    match random.below(9) {
         0 => words[at] ^= 1 << random.below(32),
         1 => words[at] = random.word(),
         2 => words[at] = words[at] & 0x1fff_ffff | random.upto(7) << 29,
@@ -145,17 +177,57 @@ fn damage(random: &mut Random, net: &Net, words: &mut Vec<u32>) {
         5 => drop(words.remove(at)),
         6 => words[0] = 1 << 29 | random.pick(&[0, 1, 511, 512, 513, 1023]) << 12 | words[0] & 0xfff,
         7 => words[0] = words[0] & !0xfff | random.pick(&[0, 1, 2047, 2048, 2049, 4095]),
-        8 => words[inside(pair)] = 2 << 29 | random.pick(&[n - 1, n, 1023]) << 10 | random.upto(n),
-        9 => words[inside(pair)] |= 1 << (20 + random.below(9)),
-        10 => words[inside(pair + 1)] = 3 << 29 | random.pick(&[0, 999_999, 1_000_000, 1_000_001, 1 << 28]),
-        11 => words[inside(pair + 2)] = 4 << 29 | random.pick(&[0, 999_999, 1_000_000, 1_000_001, 1 << 28]),
-        12 => {
-            words[inside(pair + 2)] =
-                4 << 29 | (words[inside(pair + 1)] & 0x1fff_ffff).wrapping_add(random.upto(2)).wrapping_sub(1) & 0xf_ffff
-        }
         _ => words[len - 1] = words[len - 1].wrapping_add(random.pick(&[1, u32::MAX])),
     }
-    if random.one_in(2) {
-        sealed(words);
+}
+
+fn damage_pair(random: &mut Random, net: &Net, words: &mut [u32]) {
+    let (n, last) = (net.registers() as u32, words.len() - 1);
+    let block = if net.needy() { net.registers() } else { 0 };
+    let pair = 1 + block + 3 * random.below(net.pairs.len() + 1);
+    let [pair, least, greatest] = [pair, pair + 1, pair + 2].map(|k| k.min(last));
+    match random.below(5) {
+        0 => words[pair] = 2 << 29 | random.pick(&[n - 1, n, 1023]) << 10 | random.upto(n),
+        1 => words[pair] |= 1 << (20 + random.below(9)),
+        2 => words[least] = 3 << 29 | random.pick(&[0, 999_999, 1_000_000, 1_000_001, 1 << 28]),
+        3 => words[greatest] = 4 << 29 | random.pick(&[0, 999_999, 1_000_000, 1_000_001, 1 << 28]),
+        _ => {
+            let near = (words[least] & 0x1fff_ffff).wrapping_add(random.upto(2)).wrapping_sub(1) & 0xf_ffff;
+            words[greatest] = 4 << 29 | near;
+        }
     }
+}
+
+/// A block of zeros, one that was not there, none where one was, a word of it that is none, or a least delay near the hold of its
+/// capture register.
+fn damage_needs(random: &mut Random, net: &Net, words: &mut Vec<u32>) {
+    let n = net.registers();
+    let at = 1 + random.below(n);
+    if !net.needy() || words.len() <= n {
+        return put_block(random, n, words);
+    }
+    match random.below(10) {
+        0 => words[at] |= 1 << 28,
+        1 => words[at] = words[at] & 0x1fff_ffff | random.upto(7) << 29,
+        2 => words[at] = words[at] & !0x3fff | random.pick(&[9_999, 10_000, 16_383]),
+        3 => words[at] = words[at] & !(0x3fff << 14) | random.pick(&[9_999, 10_000, 16_383]) << 14,
+        4 => words[1..=n].fill(5 << 29),
+        5 => drop(words.drain(1..=n)),
+        _ => {
+            let k = random.below(net.pairs.len() + 1);
+            if let (Some(p), Some(least)) = (net.pairs.get(k), words.get_mut(1 + n + 3 * k + 1)) {
+                *least = 3 << 29 | (net.needs[p.capture].hold + random.upto(1)).saturating_sub(1);
+            }
+        }
+    }
+}
+
+/// A block before the second word: of zeros, or with the needs of one register.
+fn put_block(random: &mut Random, n: usize, words: &mut Vec<u32>) {
+    let mut block = vec![Need::default(); n];
+    if random.one_in(2) {
+        let hold = random.pick(&[0, 1, 9_999]);
+        block[random.below(n)] = Need { hold, setup: 1 + random.upto(9_998) };
+    }
+    words.splice(1..1, block.into_iter().map(need_word));
 }

@@ -10,9 +10,17 @@ pub struct Pair {
     pub greatest: u32,
 }
 
+/// What a register needs: how long its input holds after the tick, and how long it stands before.
+#[derive(Clone, Copy, Debug, Default, PartialEq, Eq)]
+pub struct Need {
+    pub hold: u32,
+    pub setup: u32,
+}
+
+/// As many needs as registers.
 #[derive(Clone, Debug, PartialEq, Eq)]
 pub struct Net {
-    pub registers: usize,
+    pub needs: Vec<Need>,
     pub pairs: Vec<Pair>,
 }
 
@@ -33,8 +41,17 @@ pub fn sealed(words: &mut [u32]) {
     }
 }
 
+/// The word of a register's needs.
+pub fn need_word(need: Need) -> u32 {
+    0xa000_0000 + 16_384 * need.setup + need.hold
+}
+
+/// The words of a net; those of its needs only if one is above zero.
 pub fn encode(net: &Net) -> Vec<u32> {
-    let mut words = vec![0x2000_0000 + 4_096 * net.registers as u32 + net.pairs.len() as u32];
+    let mut words = vec![0x2000_0000 + 4_096 * net.registers() as u32 + net.pairs.len() as u32];
+    if net.needy() {
+        words.extend(net.needs.iter().map(|need| need_word(*need)));
+    }
     for p in &net.pairs {
         words.push(0x4000_0000 + 1_024 * p.launch as u32 + p.capture as u32);
         words.push(0x6000_0000 + p.least);
@@ -45,9 +62,9 @@ pub fn encode(net: &Net) -> Vec<u32> {
     words
 }
 
-/// 14, 15 and 16, with the places for registers, least and greatest.
-fn values(n: usize, p: &Pair, places: [usize; 3]) -> Result<(), Refusal> {
-    if p.launch.max(p.capture) >= n {
+/// 14, 15, 16 and 19, with the places for registers, least and greatest.
+fn values(needs: &[Need], p: &Pair, places: [usize; 3]) -> Result<(), Refusal> {
+    if p.launch.max(p.capture) >= needs.len() {
         return refuse(14, places[0]);
     }
     if p.least > 1_000_000 {
@@ -59,80 +76,132 @@ fn values(n: usize, p: &Pair, places: [usize; 3]) -> Result<(), Refusal> {
     if p.least > p.greatest {
         return refuse(16, places[2]);
     }
+    if p.least < needs[p.capture].hold {
+        return refuse(19, places[1]);
+    }
     Ok(())
 }
 
+/// The needs that stand after the head: 13 for a word that is none, 18 if all are zero.
+fn block(words: &[u32]) -> Result<Vec<Need>, Refusal> {
+    let mut needs = Vec::new();
+    for (r, word) in words.iter().enumerate() {
+        let need = Need { hold: word % 16_384, setup: word / 16_384 % 16_384 };
+        if word >> 28 != 0b1010 || need.hold > 9_999 || need.setup > 9_999 {
+            return refuse(13, 1 + r);
+        }
+        needs.push(need);
+    }
+    if needs.iter().all(|need| *need == Need::default()) {
+        return refuse(18, 1);
+    }
+    Ok(needs)
+}
+
 pub fn decode(words: &[u32]) -> Result<Net, Refusal> {
-    let [head, body @ .., end] = words else { return refuse(11, 0) };
+    let [head, second, ..] = words else { return refuse(11, 0) };
     let (m, n) = ((head & 0xfff) as usize, (head >> 12 & 0x3ff) as usize);
     if head >> 22 != 0b001_0000000 || !(1..=512).contains(&n) || m > 2_048 {
         return refuse(12, 0);
     }
-    if body.len() != 3 * m {
+    let taken = if second >> 29 == 5 { n } else { 0 };
+    if words.len() != 1 + taken + 3 * m + 1 {
         return refuse(11, 0);
     }
+    let needs = if taken > 0 { block(&words[1..1 + taken])? } else { vec![Need::default(); n] };
+    let last = words.len() - 1;
     let mut pairs = Vec::new();
-    for (k, three) in body.chunks_exact(3).enumerate() {
-        let at = 1 + 3 * k;
+    for (k, three) in words[1 + taken..last].chunks_exact(3).enumerate() {
+        let at = 1 + taken + 3 * k;
         let prefixes = [three[0] >> 20 == 0b010_000000000, three[1] >> 29 == 3, three[2] >> 29 == 4];
         if let Some(i) = prefixes.iter().position(|good| !good) {
             return refuse(13, at + i);
         }
         let [link, least, greatest] = [three[0] & 0xf_ffff, three[1] & 0x1fff_ffff, three[2] & 0x1fff_ffff];
         let p = Pair { launch: link as usize / 1_024, capture: link as usize % 1_024, least, greatest };
-        values(n, &p, [at, at + 1, at + 2])?;
+        values(&needs, &p, [at, at + 1, at + 2])?;
         pairs.push(p);
     }
-    let last = words.len() - 1;
+    let end = words[last];
     if end >> 29 != 7 {
         return refuse(13, last);
     }
     if end & 0x1fff_ffff != low29(words[..last].iter().map(|w| *w as u64).sum()) {
         return refuse(17, last);
     }
-    Ok(Net { registers: n, pairs })
+    Ok(Net { needs, pairs })
 }
 
 /// The net that the writer's numbers give.
-pub fn given(n: u32, numbers: &[u32]) -> Result<Net, Refusal> {
+pub fn given(n: u32, numbers: &[u32], needs: &[u32]) -> Result<Net, Refusal> {
     if numbers.len() % 4 != 0 {
         return refuse(11, 0);
     }
     if !(1..=512).contains(&n) || numbers.len() > 4 * 2_048 {
         return refuse(12, 0);
     }
+    if needs.len() != 2 * n as usize {
+        return refuse(11, 0);
+    }
+    if let Some(i) = needs.iter().position(|need| *need > 9_999) {
+        return refuse(13, i / 2);
+    }
+    let needs: Vec<Need> = needs.chunks_exact(2).map(|two| Need { hold: two[0], setup: two[1] }).collect();
     let mut pairs = Vec::new();
     for (k, four) in numbers.chunks_exact(4).enumerate() {
         let p = Pair { launch: four[0] as usize, capture: four[1] as usize, least: four[2], greatest: four[3] };
-        values(n as usize, &p, [k, k, k])?;
+        values(&needs, &p, [k, k, k])?;
         pairs.push(p);
     }
-    Ok(Net { registers: n as usize, pairs })
+    Ok(Net { needs, pairs })
 }
 
 impl Net {
+    pub fn registers(&self) -> usize {
+        self.needs.len()
+    }
+
+    pub fn needy(&self) -> bool {
+        self.needs.iter().any(|need| *need != Need::default())
+    }
+
     /// Launch, capture, least and greatest of each pair.
     pub fn numbers(&self) -> Vec<u32> {
         self.pairs.iter().flat_map(|p| [p.launch as u32, p.capture as u32, p.least, p.greatest]).collect()
     }
 
+    /// Hold and setup need of each register.
+    pub fn need_numbers(&self) -> Vec<u32> {
+        self.needs.iter().flat_map(|need| [need.hold, need.setup]).collect()
+    }
+
     pub fn scratch(&self) -> usize {
-        6 * self.registers + 4 * self.pairs.len()
+        6 * self.registers() + 4 * self.pairs.len()
+    }
+
+    /// The time that a pair takes at the longest: its greatest delay, and what the capture register needs before the tick.
+    pub fn longest_way(&self, p: &Pair) -> i64 {
+        p.greatest as i64 + self.needs[p.capture].setup as i64
+    }
+
+    /// By how much the capture register may be later: the least delay, less what it needs after the tick.
+    pub fn shortest_way(&self, p: &Pair) -> i64 {
+        p.least as i64 - self.needs[p.capture].hold as i64
     }
 
     // ---- schedules
 
     pub fn common(&self) -> u32 {
-        self.pairs.iter().map(|p| p.greatest).fold(1, u32::max)
+        self.pairs.iter().map(|p| self.longest_way(p) as u32).fold(1, u32::max)
     }
 
     pub fn check(&self, period: u32, timings: &[u32]) -> Checked {
         for (pair, p) in self.pairs.iter().enumerate() {
             let (a, b) = (timings[p.launch] as i64, timings[p.capture] as i64);
-            if a - b > period as i64 - p.greatest as i64 {
+            if a - b > period as i64 - self.longest_way(p) {
                 return Checked::Broken { pair, rule: Rule::Setup };
             }
-            if b - a > p.least as i64 {
+            if b - a > self.shortest_way(p) {
                 return Checked::Broken { pair, rule: Rule::Hold };
             }
         }
@@ -148,10 +217,13 @@ impl Net {
         let arcs: Vec<(usize, usize, i64)> = self
             .pairs
             .iter()
-            .flat_map(|p| [(p.launch, p.capture, p.greatest as i64 - period as i64), (p.capture, p.launch, -(p.least as i64))])
+            .flat_map(|p| {
+                let (setup, hold) = (self.longest_way(p) - period as i64, -self.shortest_way(p));
+                [(p.launch, p.capture, setup), (p.capture, p.launch, hold)]
+            })
             .collect();
-        let mut far = vec![0i64; self.registers];
-        for _ in 0..=self.registers {
+        let mut far = vec![0i64; self.registers()];
+        for _ in 0..=self.registers() {
             let mut moved = false;
             for &(from, to, gain) in &arcs {
                 if far[from] + gain > far[to] {
@@ -184,7 +256,7 @@ impl Net {
     pub fn plain_free(&self, cap: u32) -> (u32, Vec<u32>) {
         for period in 1.. {
             let mut least: Option<Vec<u32>> = None;
-            let mut timings = vec![0; self.registers];
+            let mut timings = vec![0; self.registers()];
             loop {
                 if self.meets(period, &timings) {
                     let so_far = least.get_or_insert_with(|| timings.clone());
@@ -210,7 +282,7 @@ impl Net {
 
     /// The first split in register order by trying all.
     pub fn plain_split(&self, period: u32, offset: u32) -> Option<Vec<u32>> {
-        let n = self.registers;
+        let n = self.registers();
         (0..1usize << n)
             .map(|code| Net::timings(&(0..n).map(|r| code >> (n - 1 - r) & 1 == 1).collect::<Vec<_>>(), offset))
             .find(|timings| self.meets(period, timings))
@@ -222,8 +294,8 @@ impl Net {
         if !graph.satisfiable() {
             return None;
         }
-        let mut chosen = vec![None; self.registers];
-        for r in 0..self.registers {
+        let mut chosen = vec![None; self.registers()];
+        for r in 0..self.registers() {
             if chosen[r].is_none() && !graph.assume(&mut chosen, r, false) {
                 assert!(graph.assume(&mut chosen, r, true), "a satisfiable net has no dead end");
             }
@@ -263,10 +335,11 @@ impl Net {
             .expect("all early does at the common period")
     }
 
-    /// All delays times k: whole times of this net are times of the other in parts of 1/k.
+    /// All delays and needs times k: whole times of this net are times of the other in parts of 1/k.
     pub fn times(&self, k: u32) -> Net {
+        let needs = self.needs.iter().map(|need| Need { hold: k * need.hold, setup: k * need.setup }).collect();
         let pairs = self.pairs.iter().map(|p| Pair { least: k * p.least, greatest: k * p.greatest, ..*p }).collect();
-        Net { pairs, ..*self }
+        Net { needs, pairs }
     }
 }
 
@@ -275,12 +348,12 @@ struct Implications(Vec<Vec<usize>>);
 
 impl Implications {
     fn of(net: &Net, period: u32, offset: u32) -> Implications {
-        let mut next = vec![Vec::new(); 2 * net.registers];
+        let mut next = vec![Vec::new(); 2 * net.registers()];
         for p in &net.pairs {
             for choice in 0..4 {
                 let (a, b) = (choice / 2, choice % 2);
                 let (s, t) = (a as i64 * offset as i64, b as i64 * offset as i64);
-                if s - t > period as i64 - p.greatest as i64 || t - s > p.least as i64 {
+                if s - t > period as i64 - net.longest_way(p) || t - s > net.shortest_way(p) {
                     next[2 * p.launch + a].push(2 * p.capture + 1 - b);
                     next[2 * p.capture + b].push(2 * p.launch + 1 - a);
                 }

@@ -10,7 +10,7 @@ use crate::tally::Tally;
 
 fn text(bytes: &[u8], tally: &mut Tally) -> String {
     let mut text = String::new();
-    let decoded = if bytes.len() > 24_584 || bytes.len() % 4 != 0 {
+    let decoded = if bytes.len() > 26_632 || bytes.len() % 4 != 0 {
         refuse(11, 0)
     } else {
         decode(&bytes.chunks_exact(4).map(|b| u32::from_le_bytes([b[0], b[1], b[2], b[3]])).collect::<Vec<_>>())
@@ -21,8 +21,8 @@ fn text(bytes: &[u8], tally: &mut Tally) -> String {
         Ok(net) => {
             let (plan, timings) = net.plan();
             writeln!(text, "common {} free {} two {} offset {}", plan.common, plan.free, plan.two, plan.offset).unwrap();
-            for r in 0..net.registers {
-                writeln!(text, "{r} {} {}", timings[r], timings[net.registers + r]).unwrap();
+            for r in 0..net.registers() {
+                writeln!(text, "{r} {} {}", timings[r], timings[net.registers() + r]).unwrap();
             }
         }
     }
@@ -53,16 +53,17 @@ fn reports() {
     let mut tally = Tally::default();
     for _ in 0..30_000 {
         let delay = random.pick(&[6, 40, 1_000_000]);
-        let net = net(&mut random, Size { registers: 10, pairs: 14, delay });
+        let need = random.pick(&[3, 9_999]);
+        let net = net(&mut random, Size { registers: 10, pairs: 14, delay, need });
         let words = words(&mut random, &net);
         let bytes = bytes_of(&mut random, &words);
         try_report(&mut random, &bytes, &mut tally);
     }
     for _ in 0..30 {
-        let net = exact_net(&mut random, 512, 2_048, 1_000_000);
+        let net = exact_net(&mut random, 512, 2_048, 1_000_000, 9_999);
         let mut bytes = bytes_of(&mut random, &encode(&net));
         bytes.extend(vec![0; random.pick(&[0, 0, 4, 40_000])]);
         try_report(&mut random, &bytes, &mut tally);
     }
-    tally.all_met("reports", &["plan", "11", "12", "13", "14", "15", "16", "17"]);
+    tally.all_met("reports", &["plan", "11", "12", "13", "14", "15", "16", "17", "18", "19"]);
 }

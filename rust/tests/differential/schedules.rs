@@ -3,7 +3,7 @@ use darnerflax::{check, free, Checked, Periods, Rule};
 
 use crate::lent::Lent;
 use crate::random::{damaged, exact_net, net, words, Random, Size};
-use crate::reference::{decode, encode, refuse, Net, Pair};
+use crate::reference::{decode, encode, refuse, Need, Net, Pair};
 use crate::tally::Tally;
 use crate::trails::{least_timings, longest_cycle, Fraction};
 
@@ -18,7 +18,7 @@ fn named(found: &Checked) -> &'static str {
 fn try_check(random: &mut Random, words: &[u32], period: u32, timings: &[u32], tally: &mut Tally) {
     let expected = decode(words).and_then(|net| {
         let fits =
-            (1..=1_000_000).contains(&period) && timings.len() == net.registers && timings.iter().all(|t| *t <= 511_000_000);
+            (1..=1_009_999).contains(&period) && timings.len() == net.registers() && timings.iter().all(|t| *t <= 516_109_489);
         if fits {
             Ok(net.check(period, timings))
         } else {
@@ -43,20 +43,20 @@ fn try_near(random: &mut Random, periods: Periods, mut timings: Vec<u32>, words:
         timings[r] = timings[r].wrapping_add(random.pick(&[1, u32::MAX, 2, 1_000]));
     }
     match random.below(30) {
-        0 => period = random.pick(&[0, 1, 999_999, 1_000_000, 1_000_001, u32::MAX]),
+        0 => period = random.pick(&[0, 1, 1_009_998, 1_009_999, 1_010_000, u32::MAX]),
         1 => timings.push(0),
         2 => drop(timings.pop()),
         3 => {
             let r = random.below(timings.len());
-            timings[r] = random.pick(&[511_000_000, 511_000_001, u32::MAX]);
+            timings[r] = random.pick(&[516_109_489, 516_109_490, u32::MAX]);
         }
-        4 => timings.iter_mut().for_each(|t| *t = random.upto(511_000_000)),
+        4 => timings.iter_mut().for_each(|t| *t = random.upto(516_109_489)),
         _ => {}
     }
     try_check(random, words, period, &timings, tally);
 }
 
-const CHECKED: &[&str] = &["admissible", "setup", "hold", "3", "11", "12", "13", "14", "15", "16", "17"];
+const CHECKED: &[&str] = &["admissible", "setup", "hold", "3", "11", "12", "13", "14", "15", "16", "17", "18", "19"];
 
 #[test]
 fn small_schedules_checked() {
@@ -64,7 +64,8 @@ fn small_schedules_checked() {
     let mut tally = Tally::default();
     for _ in 0..200_000 {
         let delay = random.pick(&[5, 20, 1_000_000]);
-        let net = net(&mut random, Size { registers: 7, pairs: 9, delay });
+        let need = random.pick(&[3, 9_999]);
+        let net = net(&mut random, Size { registers: 7, pairs: 9, delay, need });
         let words = words(&mut random, &net);
         let (periods, timings) = net.free();
         try_near(&mut random, periods, timings, &words, &mut tally);
@@ -77,7 +78,7 @@ fn full_schedules_checked() {
     let mut random = Random::new(12);
     let mut tally = Tally::default();
     for _ in 0..100 {
-        let net = exact_net(&mut random, 512, 2_048, 1_000_000);
+        let net = exact_net(&mut random, 512, 2_048, 1_000_000, 9_999);
         let words = encode(&net);
         let (periods, timings) = net.free();
         for _ in 0..100 {
@@ -93,7 +94,7 @@ fn full_schedules_checked() {
 
 fn try_free(random: &mut Random, words: &[u32], tally: &mut Tally) {
     let decoded = decode(words);
-    let n = decoded.as_ref().map_or(3, |net| net.registers);
+    let n = decoded.as_ref().map_or(3, |net| net.registers());
     let room = random.room(n);
     let (mut list, mut answer) = (Lent::input(random, words), Lent::new(random, room));
     if decoded.is_ok() {
@@ -112,7 +113,7 @@ fn try_free(random: &mut Random, words: &[u32], tally: &mut Tally) {
     tally.answer(&expected, |periods| if periods.free < periods.common { "shorter" } else { "common" });
 }
 
-const FREED: &[&str] = &["shorter", "common", "2", "11", "12", "13", "14", "15", "16", "17"];
+const FREED: &[&str] = &["shorter", "common", "2", "11", "12", "13", "14", "15", "16", "17", "18", "19"];
 
 #[test]
 fn small_nets_freed() {
@@ -120,7 +121,8 @@ fn small_nets_freed() {
     let mut tally = Tally::default();
     for _ in 0..200_000 {
         let delay = random.pick(&[4, 30, 1_000_000]);
-        let net = net(&mut random, Size { registers: 9, pairs: 14, delay });
+        let need = random.pick(&[3, 9_999]);
+        let net = net(&mut random, Size { registers: 9, pairs: 14, delay, need });
         let words = words(&mut random, &net);
         try_free(&mut random, &words, &mut tally);
     }
@@ -133,7 +135,8 @@ fn middle_nets_freed() {
     let mut tally = Tally::default();
     for _ in 0..20_000 {
         let delay = random.pick(&[30, 1_000, 1_000_000]);
-        let net = net(&mut random, Size { registers: 60, pairs: 150, delay });
+        let need = random.pick(&[30, 9_999]);
+        let net = net(&mut random, Size { registers: 60, pairs: 150, delay, need });
         let words = words(&mut random, &net);
         try_free(&mut random, &words, &mut tally);
     }
@@ -147,23 +150,51 @@ fn full_nets_freed() {
     for _ in 0..500 {
         let delay = random.pick(&[30, 1_000, 1_000_000]);
         let m = random.pick(&[2_048, 2_048, 600, 512, 511]);
-        let net = exact_net(&mut random, 512, m, delay);
+        let need = random.pick(&[30, 9_999]);
+        let net = exact_net(&mut random, 512, m, delay, need);
         try_free(&mut random, &encode(&net), &mut tally);
     }
     tally.all_met("full nets freed", &["shorter", "common", "2"]);
 }
 
-/// The largest timing there is: a chain of 512 whose steps each ask for all that a delay allows.
-#[test]
-fn longest_chain_freed() {
-    let mut random = Random::new(16);
+/// A chain of 512 whose steps each ask for all that a delay and a need allow: the free period is 1, or what the needs take.
+fn try_chain(random: &mut Random, need: Need, period: u32, step: u32) {
     let pairs = (0..511).map(|r| Pair { launch: r, capture: r + 1, least: 1_000_000, greatest: 1_000_000 }).collect();
-    let chain = Net { registers: 512, pairs };
+    let chain = Net { needs: vec![need; 512], pairs };
     let (periods, timings) = chain.free();
-    assert_eq!((periods.free, timings[511]), (1, 511 * 999_999));
-    let mut answer = Lent::new(&mut random, 512);
+    assert_eq!((periods.common, periods.free, timings[511]), (1_000_000 + need.setup, period, 511 * step));
+    let mut answer = Lent::new(random, 512);
     assert_eq!(free(&encode(&chain), answer.slice()), Ok(periods));
     assert!(answer.holds(&timings));
+}
+
+#[test]
+fn longest_chains_freed() {
+    let mut random = Random::new(16);
+    try_chain(&mut random, Need { hold: 0, setup: 0 }, 1, 999_999);
+    try_chain(&mut random, Need { hold: 0, setup: 9_999 }, 9_999, 1_000_000);
+    try_chain(&mut random, Need { hold: 9_999, setup: 0 }, 9_999, 990_001);
+    try_chain(&mut random, Need { hold: 9_999, setup: 9_999 }, 19_998, 990_001);
+}
+
+/// The longest period and the latest timing pass, and one more does not. A pair of the longest delay and need passes at that
+/// period and at none below.
+#[test]
+fn limits_of_a_schedule() {
+    let needs = vec![Need { hold: 0, setup: 9_999 }; 2];
+    let words = encode(&Net { needs, pairs: vec![Pair { launch: 0, capture: 1, least: 1_000_000, greatest: 1_000_000 }] });
+    let at = |period, timings: [u32; 2]| check(&words, period, &timings);
+    let setup = Checked::Broken { pair: 0, rule: Rule::Setup };
+    let hold = Checked::Broken { pair: 0, rule: Rule::Hold };
+    assert_eq!(
+        [at(1_009_998, [0, 0]), at(1_009_999, [0, 0]), at(1_010_000, [0, 0])],
+        [Ok(setup), Ok(Checked::Admissible), refuse(3, 0)]
+    );
+    assert_eq!([at(1, [0, 516_109_489]), at(1, [0, 516_109_490])], [Ok(hold), refuse(3, 0)]);
+    assert_eq!(
+        [at(9_999, [515_109_489, 516_109_489]), at(9_998, [515_109_489, 516_109_489])],
+        [Ok(Checked::Admissible), Ok(setup)]
+    );
 }
 
 /// Against all schedules, tried one by one.
@@ -171,9 +202,9 @@ fn longest_chain_freed() {
 fn tiny_nets_freed_plainly() {
     let mut random = Random::new(17);
     for _ in 0..6_000 {
-        let net = net(&mut random, Size { registers: 3, pairs: 5, delay: 4 });
-        let (period, timings) = net.plain_free(8);
-        let mut answer = Lent::new(&mut random, net.registers);
+        let net = net(&mut random, Size { registers: 3, pairs: 5, delay: 4, need: 2 });
+        let (period, timings) = net.plain_free(12);
+        let mut answer = Lent::new(&mut random, net.registers());
         let periods = free(&encode(&net), answer.slice()).expect("a list that is accepted");
         assert_eq!((periods.common, periods.free), (net.common(), period), "{net:?}");
         assert!(answer.holds(&timings), "{net:?}");
@@ -190,10 +221,10 @@ fn tiny_nets_freed_by_trails() {
     let mut random = Random::new(18);
     let mut tally = Tally::default();
     for _ in 0..40_000 {
-        let net = net(&mut random, Size { registers: 6, pairs: 9, delay: 8 });
+        let net = net(&mut random, Size { registers: 6, pairs: 9, delay: 8, need: 3 });
         let bound = longest_cycle(&net);
         let period = bound.map_or(1, Fraction::whole);
-        let mut answer = Lent::new(&mut random, net.registers);
+        let mut answer = Lent::new(&mut random, net.registers());
         let periods = free(&encode(&net), answer.slice());
         assert_eq!(periods, Ok(Periods { common: net.common(), free: period }), "{net:?}");
         assert!(answer.holds(&least_timings(&net, period)), "{net:?}");

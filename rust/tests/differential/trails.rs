@@ -5,7 +5,8 @@
 //! way round is made of cycles like these, so no other asks for more.
 use crate::reference::Net;
 
-/// The time at `to` is at least that at `from`, plus `delay`, less the period if the rule is a setup.
+/// The time at `to` is at least that at `from`, plus `delay` with the need of the capture register, less the period if the rule
+/// is a setup.
 struct Rule {
     from: usize,
     to: usize,
@@ -32,8 +33,8 @@ impl Gain {
 fn rules(net: &Net) -> Vec<Rule> {
     let both = net.pairs.iter().flat_map(|p| {
         [
-            Rule { from: p.launch, to: p.capture, gain: Gain { delay: p.greatest as i64, setups: 1 } },
-            Rule { from: p.capture, to: p.launch, gain: Gain { delay: -(p.least as i64), setups: 0 } },
+            Rule { from: p.launch, to: p.capture, gain: Gain { delay: net.longest_way(p), setups: 1 } },
+            Rule { from: p.capture, to: p.launch, gain: Gain { delay: -net.shortest_way(p), setups: 0 } },
         ]
     });
     both.collect()
@@ -58,7 +59,7 @@ fn follow(rules: &[Rule], path: &mut Vec<usize>, so_far: Gain, show: &mut impl F
 
 fn trails(net: &Net, mut show: impl FnMut(usize, usize, Gain)) {
     let rules = rules(net);
-    for start in 0..net.registers {
+    for start in 0..net.registers() {
         follow(&rules, &mut vec![start], Gain { delay: 0, setups: 0 }, &mut |end, gain| show(start, end, gain));
     }
 }
@@ -96,7 +97,7 @@ pub fn longest_cycle(net: &Net) -> Option<Fraction> {
 
 /// The smallest timings from 0 up at a period with a schedule: no register's can be below what a trail to it asks for.
 pub fn least_timings(net: &Net, period: u32) -> Vec<u32> {
-    let mut timings = vec![0i64; net.registers];
+    let mut timings = vec![0i64; net.registers()];
     trails(net, |_, end, gain| timings[end] = timings[end].max(gain.at(period)));
     timings.into_iter().map(|t| t as u32).collect()
 }

@@ -1,47 +1,46 @@
--- By the kind of the second word; the word of needs of a register stands in an accepted list, and its hold is at most the least delay.
+-- By the second word; the word of needs of a register stands in an accepted list, and its hold is at most the least delay.
 use Prim.Native.Nat.{_<_}
-use mathlib.Core.Path.{sym, _∙_}
 use native.Mathlib.Omega.{arith}
 use Rattle.list_format.specs.Lists.{needWords}
-use Rattle.list_format.proofs.ListLaws.{accepted-in}
-use Rattle.list_format.proofs.NeedsLaws.{needs-present, needs-absent, hold-at, counting-none, counting-at}
+use Rattle.list_format.proofs.ListLaws.{accepted-in, none-below, needs-from}
+use Rattle.list_format.proofs.NeedsLaws.{hold-at, counting-none, counting-at}
 use borrow.Author.Needs.{needs}
 use Rattle.delay_list.proofs.count_needs.Statement.{statement}
 use Rattle.delay_list.proofs.count_needs.Tie as tie
 
-shared-slice-read-kind : tie.Need-shared-slice-read-kind
-shared-slice-read-kind c =
+shared-slice-read-if1 : tie.Need-shared-slice-read-if1
+shared-slice-read-if1 c =
     let s = c .before .before in
-    omega (arith, accepted-in (s .args .words .now) (s .pre .0) .head .size)
+    omega (arith, accepted-in (s .args .words .now) (s .pre .0 .accepted) .head .size)
 
 returns : tie.Need-returns
 returns c =
-    let s = c .before .before .before .before in
-    counting-none (s .args .words .now) (s .args .p) (needs-absent (s .args .words .now) (λ e. c .if1 .taken (c .before .kind .ensures ∙ e)))
+    let s = c .before .before .before in
+    counting-none (s .args .words .now) (s .args .p) (none-below (s .args .words .now) (c .if1 .taken))
 
 need-at-requires : tie.Need-need-at-requires
 need-at-requires c κs =
-    let s = c .before .before .before .before in
+    let s = c .before .before .before in
     let ws = s .args .words .now in
     let v = s .pre .1 .values in
-    let all = needs-present ws (sym (c .before .kind .ensures) ∙ c .if1 .left) in
-    omega (arith, accepted-in ws (s .pre .0) .head .size, v .launch, v .capture, all)
+    let all = needs-from ws (s .args .k) (s .pre .0) (c .if1 .left) in
+    omega (arith, accepted-in ws (s .pre .0 .accepted) .head .size, v .launch, v .capture, all)
 
 with-needs-requires : tie.Need-with-needs-requires
 with-needs-requires c κs =
-    let s = c .before .before .before .before .before in
+    let s = c .before .before .before .before in
     let ws = s .args .words .now in
     let w = s .pre .1 in
-    let all = needs-present ws (sym (c .before .before .kind .ensures) ∙ c .before .if1 .left) in
+    let all = needs-from ws (s .args .k) (s .pre .0) (c .before .if1 .left) in
     let below : s .args .p .capture < needWords ws = omega (arith, w .values .capture, all) in
     let same = hold-at ws below in
     (rw (c .need-at .ensures) (omega (arith, same, w .holds)), (w .values .order, w .values .limit))
 
 returns-2 : tie.Need-returns-2
 returns-2 c =
-    let s = c .before .before .before .before .before .before in
+    let s = c .before .before .before .before .before in
     let ws = s .args .words .now in
-    let all = needs-present ws (sym (c .before .before .before .kind .ensures) ∙ c .before .before .if1 .left) in
+    let all = needs-from ws (s .args .k) (s .pre .0) (c .before .before .if1 .left) in
     let below : s .args .p .capture < needWords ws = omega (arith, s .pre .1 .values .capture, all) in
     rw (c .with-needs .ensures, c .before .need-at .ensures) (counting-at ws (s .args .p) below)
 
@@ -49,4 +48,4 @@ pub count-needs-spec : {M : Type 1} → statement M
 count-needs-spec =
     tie.close
     (tie.spec
-    shared-slice-read-kind (λ c κs. search needs) returns need-at-requires with-needs-requires returns-2)
+    shared-slice-read-if1 returns need-at-requires with-needs-requires returns-2)

@@ -5,7 +5,7 @@ use Rattle.delay_list.proofs.pair_at.Statement.{statement}
 use Rattle.delay_list.proofs.pair_at.Tie as tie
 
 count-needs-requires : tie.Need-count-needs-requires
-count-needs-requires c κs = (c .before .before .pre .accepted, c .written-at .ensures .values)
+count-needs-requires c κs = (c .before .before .pre, c .written-at .ensures .values)
 
 returns : tie.Need-returns
 returns c =

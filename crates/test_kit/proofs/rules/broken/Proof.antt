@@ -5,10 +5,10 @@ use Rattle.test_kit.proofs.rules.broken.Statement.{statement}
 use Rattle.test_kit.proofs.rules.broken.Tie as tie
 
 abbrev Inv-loop : tie.InvT-loop
-Inv-loop numbers m period s k₀ k = k ≤ m
+Inv-loop numbers needs m period s k₀ k = k ≤ m
 
 abbrev μ-loop : tie.MeasureT-loop
-μ-loop numbers m period s k₀ k = m - k
+μ-loop numbers needs m period s k₀ k = m - k
 
 pub broken-spec : {M : Type 1} → statement M
 broken-spec =

@@ -11,10 +11,10 @@ abbrev splits : ℕ
 splits = 64
 
 abbrev Inv-loop : tie.InvT-loop
-Inv-loop numbers n m period offset s₀ v₀ s v = (v ≤ splits) × (length s ≡ length s₀)
+Inv-loop numbers needs n m period offset s₀ v₀ s v = (v ≤ splits) × (length s ≡ length s₀)
 
 abbrev μ-loop : tie.MeasureT-loop
-μ-loop numbers n m period offset s₀ v₀ s v = splits - v
+μ-loop numbers needs n m period offset s₀ v₀ s v = splits - v
 
 pub first-split-spec : {M : Type 1} → statement M
 first-split-spec =

@@ -9,10 +9,10 @@ abbrev lists : ℕ
 lists = 2_000
 
 abbrev Inv-loop : tie.InvT-loop
-Inv-loop kind tally₀ seed₀ i₀ tally seed i = i ≤ lists
+Inv-loop kind most tally₀ seed₀ i₀ tally seed i = i ≤ lists
 
 abbrev μ-loop : tie.MeasureT-loop
-μ-loop kind tally₀ seed₀ i₀ tally seed i = lists - i
+μ-loop kind most tally₀ seed₀ i₀ tally seed i = lists - i
 
 pub lists-spec : {M : Type 1} → statement M
 lists-spec =

@@ -9,13 +9,13 @@ use Rattle.test_plans.proofs.search.least_offset.Tie as tie
 
 -- the largest offset that is tried, in halves of a picosecond
 abbrev most : ℕ
-most = 20
+most = 30
 
 abbrev Inv-loop : tie.InvT-loop
-Inv-loop halves n m period s₀ offset₀ s offset = (offset ≤ most + 1) × (length s ≡ length s₀)
+Inv-loop halves needs n m period s₀ offset₀ s offset = (offset ≤ most + 1) × (length s ≡ length s₀)
 
 abbrev μ-loop : tie.MeasureT-loop
-μ-loop halves n m period s₀ offset₀ s offset = most + 1 - offset
+μ-loop halves needs n m period s₀ offset₀ s offset = most + 1 - offset
 
 pub least-offset-spec : {M : Type 1} → statement M
 least-offset-spec =

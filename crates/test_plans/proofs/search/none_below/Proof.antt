@@ -7,10 +7,10 @@ use Rattle.test_plans.proofs.search.none_below.Statement.{statement}
 use Rattle.test_plans.proofs.search.none_below.Tie as tie
 
 abbrev Inv-loop : tie.InvT-loop
-Inv-loop halves n m period s₀ t₀ s t = length s ≡ length s₀
+Inv-loop halves needs n m period s₀ t₀ s t = length s ≡ length s₀
 
 abbrev μ-loop : tie.MeasureT-loop
-μ-loop halves n m period s₀ t₀ s t = period - t
+μ-loop halves needs n m period s₀ t₀ s t = period - t
 
 pub none-below-spec : {M : Type 1} → statement M
 none-below-spec =

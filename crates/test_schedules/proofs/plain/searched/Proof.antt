@@ -6,10 +6,10 @@ use Rattle.test_schedules.proofs.plain.searched.Statement.{statement}
 use Rattle.test_schedules.proofs.plain.searched.Tie as tie
 
 abbrev Inv-loop : tie.InvT-loop
-Inv-loop numbers n m period most best s₀ found₀ left₀ s found left = length s ≡ length s₀
+Inv-loop numbers needs n m period most best s₀ found₀ left₀ s found left = length s ≡ length s₀
 
 abbrev μ-loop : tie.MeasureT-loop
-μ-loop numbers n m period most best s₀ found₀ left₀ s found left = left
+μ-loop numbers needs n m period most best s₀ found₀ left₀ s found left = left
 
 pub searched-spec : {M : Type 1} → statement M
 searched-spec =

@@ -6,10 +6,10 @@ use Rattle.test_schedules.proofs.search.check_right.Statement.{statemen
 use Rattle.test_schedules.proofs.search.check_right.Tie as tie
 
 abbrev Inv-loop : tie.InvT-loop
-Inv-loop numbers n m words s₀ left₀ s left = length s ≡ length s₀
+Inv-loop numbers needs n m words s₀ left₀ s left = length s ≡ length s₀
 
 abbrev μ-loop : tie.MeasureT-loop
-μ-loop numbers n m words s₀ left₀ s left = left
+μ-loop numbers needs n m words s₀ left₀ s left = left
 
 pub check-right-spec : {M : Type 1} → statement M
 check-right-spec =

@@ -5,10 +5,10 @@ use Rattle.test_schedules.proofs.search.none_below.Statement.{statement
 use Rattle.test_schedules.proofs.search.none_below.Tie as tie
 
 abbrev Inv-loop : tie.InvT-loop
-Inv-loop numbers n m period t₀ t = Unit {0}
+Inv-loop numbers needs n m period t₀ t = Unit {0}
 
 abbrev μ-loop : tie.MeasureT-loop
-μ-loop numbers n m period t₀ t = period - t
+μ-loop numbers needs n m period t₀ t = period - t
 
 pub none-below-spec : {M : Type 1} → statement M
 none-below-spec =

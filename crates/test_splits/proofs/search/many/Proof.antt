@@ -9,10 +9,10 @@ abbrev lists : ℕ
 lists = 500
 
 abbrev Inv-loop : tie.InvT-loop
-Inv-loop tally₀ seed₀ i₀ tally seed i = i ≤ lists
+Inv-loop most tally₀ seed₀ i₀ tally seed i = i ≤ lists
 
 abbrev μ-loop : tie.MeasureT-loop
-μ-loop tally₀ seed₀ i₀ tally seed i = lists - i
+μ-loop most tally₀ seed₀ i₀ tally seed i = lists - i
 
 pub many-spec : {M : Type 1} → statement M
 many-spec =

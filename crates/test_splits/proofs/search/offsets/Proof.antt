@@ -9,10 +9,10 @@ abbrev most : ℕ
 most = 15
 
 abbrev Inv-loop : tie.InvT-loop
-Inv-loop words numbers n m period offset₀ offset = offset ≤ most + 1
+Inv-loop words numbers needs n m period offset₀ offset = offset ≤ most + 1
 
 abbrev μ-loop : tie.MeasureT-loop
-μ-loop words numbers n m period offset₀ offset = most + 1 - offset
+μ-loop words numbers needs n m period offset₀ offset = most + 1 - offset
 
 pub offsets-spec : {M : Type 1} → statement M
 offsets-spec =

@@ -9,10 +9,10 @@ abbrev most : ℕ
 most = 15
 
 abbrev Inv-loop : tie.InvT-loop
-Inv-loop words numbers n m period₀ period = period ≤ most + 1
+Inv-loop words numbers needs n m period₀ period = period ≤ most + 1
 
 abbrev μ-loop : tie.MeasureT-loop
-μ-loop words numbers n m period₀ period = most + 1 - period
+μ-loop words numbers needs n m period₀ period = most + 1 - period
 
 pub periods-spec : {M : Type 1} → statement M
 periods-spec =
