@@ -7,42 +7,20 @@ use borrow.Author.Needs.{needs}
 use Rattle.refusal_text.proofs.put_meaning.Statement.{statement}
 use Rattle.refusal_text.proofs.put_meaning.Tie as tie
 
-others : tie.Need-returns-13
+others : tie.Need-returns-15
 unfolding meaning
 others c =
     let r = c .before .before .before .before .before .match .rest in
-    others-said meanings _ (c .before .before .before .before .before .before .before .args .number) (
-      r .0 .0 .0 .0 .0 .0 .0 .0 .0 .0 .0 .1,
-      (
-        r .0 .0 .0 .0 .0 .0 .0 .0 .0 .0 .1,
-        (
-          r .0 .0 .0 .0 .0 .0 .0 .0 .0 .1,
-          (
-            r .0 .0 .0 .0 .0 .0 .0 .0 .1,
-            (
-              r .0 .0 .0 .0 .0 .0 .0 .1,
-              (
-                r .0 .0 .0 .0 .0 .0 .1,
-                (
-                  r .0 .0 .0 .0 .0 .1,
-                  (
-                    r .0 .0 .0 .0 .1,
-                    (r .0 .0 .0 .1, (r .0 .0 .1, (r .0 .1, (r .1, tt)))),
-                  ),
-                ),
-              ),
-            ),
-          ),
-        ),
-      ),
-    )
-    (c .before .before .put-bytes13 .ensures) (omega arith)
+    others-said meanings _ (c .before .before .before .before .before .before .before .args .number)
+    (r .0 .0 .0 .0 .0 .0 .0 .0 .0 .0 .0 .0 .0 .1, (r .0 .0 .0 .0 .0 .0 .0 .0 .0 .0 .0 .0 .1, (r .0 .0 .0 .0 .0 .0 .0 .0 .0 .0 .0 .1, (r .0 .0 .0 .0 .0 .0 .0 .0 .0 .0 .1, (r .0 .0 .0 .0 .0 .0 .0 .0 .0 .1, (r .0 .0 .0 .0 .0 .0 .0 .0 .1, (r .0 .0 .0 .0 .0 .0 .0 .1, (r .0 .0 .0 .0 .0 .0 .1, (r .0 .0 .0 .0 .0 .1, (r .0 .0 .0 .0 .1, (r .0 .0 .0 .1, (r .0 .0 .1, (r .0 .1, (r .1, tt))))))))))))))
+    (c .before .before .put-bytes15 .ensures) (omega arith)
 
 pub put-meaning-spec : {M : Type 1} → statement M
 unfolding wordsFor meaning
 put-meaning-spec =
     tie.close
     (tie.spec
+    (λ c. search needs) (λ c κs. search needs) (λ c. search needs) (λ c κs. search needs)
     (λ c. search needs) (λ c κs. search needs) (λ c. search needs) (λ c κs. search needs)
     (λ c. search needs) (λ c κs. search needs) (λ c. search needs) (λ c κs. search needs)
     (λ c. search needs) (λ c κs. search needs) (λ c. search needs) (λ c κs. search needs)
@@ -73,4 +51,8 @@ put-meaning-spec =
     (λ c. put-as meaning wordsWidth (c .before .before .before .before .before .match .keys11) (c .before .before .put-bytes11 .ensures) (omega arith))
     (λ c. search needs)
     (λ c. put-as meaning wordsWidth (c .before .before .before .before .before .match .keys12) (c .before .before .put-bytes12 .ensures) (omega arith))
+    (λ c. search needs)
+    (λ c. put-as meaning wordsWidth (c .before .before .before .before .before .match .keys13) (c .before .before .put-bytes13 .ensures) (omega arith))
+    (λ c. search needs)
+    (λ c. put-as meaning wordsWidth (c .before .before .before .before .before .match .keys14) (c .before .before .put-bytes14 .ensures) (omega arith))
     (λ c. search needs) others)
