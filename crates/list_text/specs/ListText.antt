@@ -114,15 +114,19 @@ madeDone returned stored = listBytes (toBytes stored (length stored))
 abbrev pub madeFrom : List ℕ → ℕ → ℕ → List ℕ → List ℕ → Product
 madeFrom bs needs n xs ys = told (madeRefused bs needs) madeDone (writing n xs ys maxWords)
 
--- the needs of n registers in a text whose numbers are xs: all are 0 where it has none
+-- the needs of n registers, of the numbers xs of a text after the first: all are 0 where it has none
 unfoldable pub needsGiven : ℕ → ℕ → List ℕ → List ℕ
-needsGiven needs n xs = cond (eqb needs 0) (zeros (2 * n)) (take needs (drop 1 xs))
+needsGiven needs n xs = cond (eqb needs 0) (zeros (2 * n)) (take needs xs)
 
--- from the numbers of a text: the count of registers, then the needs, then four for each pair. (A count of pairs is not among them:
+-- from the count of registers and the numbers of a text after it: the needs, then four for each pair. (A count of pairs is not among them:
 -- Scan.`numberEnded`)
+abbrev pub madeWith : List ℕ → ℕ → ℕ → List ℕ → Product
+madeWith bs needs n xs = madeFrom bs needs n (drop needs xs) (needsGiven needs n xs)
+
+-- from what is scanned
 unfoldable pub madeOf : List ℕ → Scanned → List ℕ → Product
 madeOf bs (Faulty fault line column byte) xs = errorLine (faultLine fault line column byte)
-madeOf bs (Numbers count needs) xs = madeFrom bs needs (getD xs 0 0) (drop (1 + needs) xs) (needsGiven needs (getD xs 0 0) xs)
+madeOf bs (Numbers count needs) xs = madeWith bs needs (getD xs 0 0) (drop 1 xs)
 
 -- what is made of a text
 abbrev pub made : List ℕ → Product

@@ -44,12 +44,12 @@ const PAIR_WIDTH: usize = 4 * NUMBER_WIDTH;
 pub const TEXT_PLACES: usize = NUMBER_WIDTH * NEEDS + PAIR_WIDTH * MAX_PAIRS + LINE_WIDTH;
 
 // The line of two numbers: the counts, or the needs of a register.
-fn put_two(text: &mut [u8], at: usize, a: u64, b: u64) -> usize
+fn put_two(text: &mut [u8], at: usize, a: u32, b: u32) -> usize
     requires { ⌜ at + twoWidth ≤ length (now text) ⌝ }
     ensures { λ r. ⌜ Put twoWidth (twoLine a b) (now (text .entry)) at (now (text .exit)) r ⌝ }
 {
-    let first = put_number(text, at, a, b' ');
-    put_number(text, first, b, b'\n')
+    let first = put_number(text, at, a as u64, b' ');
+    put_number(text, first, b as u64, b'\n')
 }
 
 // The lines of the needs of n registers.
@@ -61,7 +61,7 @@ fn put_needs(text: &mut [u8], at: usize, needs: &[u32], n: usize) -> usize
     let mut r = 0;
     while r < n {
         let i = 2 * r;
-        last = put_two(text, last, needs[i] as u64, needs[i + 1] as u64);
+        last = put_two(text, last, needs[i], needs[i + 1]);
         r += 1;
     }
     last
@@ -114,11 +114,17 @@ fn no_needs(needs: &[u32]) -> bool
     true
 }
 
-// How many registers have a line of needs: none if all needs are 0.
-fn need_lines(n: u32, needs: &[u32]) -> usize
-    ensures { λ r. ⌜ r ≡ givenNeeds n (now (needs .entry)) ⌝ }
+// The lines of the needs of n registers; none if all needs are 0.
+fn put_block(text: &mut [u8], at: usize, n: u32, needs: &[u32]) -> usize
+    requires { ⌜ (2 * n ≤ length (now needs)) × (at + twoWidth * n ≤ length (now text)) ⌝ }
+    ensures { λ r. ⌜
+        Put (twoWidth * n) (run (needsLine (now (needs .entry))) (givenNeeds n (now (needs .entry)))) (now (text .entry)) at (now (text .exit)) r
+        ⌝ }
 {
-    if no_needs(needs) { 0 } else { n as usize }
+    if no_needs(needs) {
+        return at;
+    }
+    put_needs(text, at, needs, n as usize)
 }
 
 // The text of n registers with their needs, and of the pairs that the numbers make.
@@ -129,9 +135,8 @@ fn put_list(text: &mut [u8], n: u32, numbers: &[u32], needs: &[u32]) -> usize
     ensures { λ r. ⌜ Put listWidth (textOf n (now (numbers .entry)) (now (needs .entry))) (now (text .entry)) 0 (now (text .exit)) r ⌝ }
 {
     let m = numbers.len() / 4;
-    let lines = need_lines(n, needs);
-    let first = put_two(text, 0, n as u64, m as u64);
-    let second = put_needs(text, first, needs, lines);
+    let first = put_two(text, 0, n, m as u32);
+    let second = put_block(text, first, n, needs);
     put_pairs(text, second, numbers, m)
 }
 

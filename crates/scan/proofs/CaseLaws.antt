@@ -1,8 +1,8 @@
 -- The definitions of one byte's reading, case by case.
 use Prim.Native.Nat.{ℕ, _+_, _-_, _*_, _≤_, _<_}
-use mathlib.Core.Bool.{Bool, true, false, not, cond}
+use mathlib.Core.Bool.{Bool, true, false, not, cond, _&&_}
 use mathlib.Core.List.{List}
-use mathlib.Core.Path.{_≡_}
+use mathlib.Core.Path.{_≡_, refl}
 use lib.Dec.{eqb}
 use lib.ListN.{set}
 use borrow.Author.Tests.{not-true, not-false, lt-ltb, le-ltb, eq-eqb, ne-eqb}
@@ -28,6 +28,16 @@ module _ (lined : Bool) (first needs count : ℕ) where
     pub needs-early : first ≡ needs + 1 → eqb count (first + 2) ≡ needLine lined first needs count
     unfolding needLine
     needs-early h = rw (not-false lined e, eq-eqb first (needs + 1) h)
+
+  -- by the count of its numbers alone a line can be seen not to hold needs
+  pub needs-other : (count ≡ first + 2 → ⊥) → needLine lined first needs count ≡ false
+  unfolding needLine
+  needs-other h = rw (ne-eqb count (first + 2) h) (go lined (eqb first (needs + 1)))
+    where
+      go : (a b : Bool) → a && (b && false) ≡ false
+      go true true = refl
+      go true false = refl
+      go false b = refl
 
   pub needs-more : needLine lined first needs count ≡ true → needs + 2 ≡ needsThen lined first needs count
   unfolding needsThen
