@@ -6,7 +6,7 @@ use mathlib.Core.Path.{_≡_, refl, sym, _∙_, ap}
 use native.Mathlib.Omega.{arith}
 use lib.Dec.{ltb, eqb}
 use lib.ListN.{length, getD, take, drop, length-append, length-drop}
-use lib.Seq.{take-at, drop-at, take-append-le, drop-append-le, drop-drop}
+use lib.Seq.{length-take-le, take-at, drop-at, drop-drop}
 use borrow.Author.Tests.{lt-ltb, ne-eqb}
 use Rattle.timing.specs.Limits.{maxRegisters, maxPairs}
 use Rattle.buffers.specs.Over.{over, zeros}
@@ -19,7 +19,7 @@ use Rattle.refusals.specs.Reply.{numbers, done, refused, replyOf, bufferAfter, 
 use Rattle.refusals.specs.declared.Fault.the-variants.{None, At}
 use Rattle.refusals.proofs.ReplyLaws.{answered-done, numbers-none, numbers-done, told-refusal, first-refused}
 use Rattle.list_format.specs.Lists.{registers, pairCount, needsOf, differ}
-use Rattle.list_format.specs.Read.{numbersOf, readChecks, reading, readReply}
+use Rattle.list_format.specs.Read.{numbersOf, readPlaces, readChecks, reading, readReply}
 use Rattle.list_format.specs.Write.{givenCount, wordsOf, endPlace, countChecks, givenBody, writeChecks, GivenIn, writing, writeReply}
 use Rattle.list_format.specs.RoundTrip.{ReadAs, WrittenAs}
 use Rattle.list_format.specs.declared.Reading.{Reading}
@@ -39,8 +39,9 @@ use Rattle.refusal_text.specs.RefusalText.{lineWidth, refusalLine, refusedSayin
 use Rattle.list_bytes.specs.ListBytes.{maxWords, maxBytes}
 use Rattle.scan.specs.declared.Scanned.{Scanned}
 use Rattle.scan.specs.declared.Scanned.the-variants.{Numbers, Faulty}
-use Rattle.scan.specs.Scan.{maxNumbers, storedOf, Counted, ScanAs}
-use Rattle.scan.proofs.StoredLaws.{stored-first}
+use Rattle.scan.specs.Scan.{maxNumbers, ScanAs}
+use Rattle.scan.proofs.ScanLaws.{lent-is}
+use Rattle.scan.proofs.StoredLaws.{stored-front, stored-size}
 use Rattle.list_text.specs.ListText.{listWidth, shownPlaces, textOf, listNumbers, shownSaid, Product, listBytes, errorLine}
 use Rattle.list_text.specs.ListText.{refusedLine, madeRefused, madeDone, madeFrom, needsGiven, madeWith, madeOf, made, storedFor, returnedFor, MadeAs}
 use Rattle.list_text.specs.declared.Made.{Made}
@@ -48,6 +49,16 @@ use Rattle.list_text.specs.declared.Made.the-variants.{Bytes, Fault}
 use Rattle.list_text.proofs.LineLaws.{lines-few}
 
 -- ---- showing
+
+-- the numbers and the needs, as they are lent
+module _ (stored : List ℕ) (n m : ℕ) (h : readPlaces n m ≤ length stored) where
+  pub lent-numbers : 4 * m ≡ length (take (4 * m) stored)
+  lent-numbers = sym (length-take-le (4 * m) stored (omega arith))
+
+  pub lent-needs : length (take (4 * m + 2 * n - 4 * m) (drop (4 * m) stored)) ≡ 2 * n
+  lent-needs =
+      let size : 4 * m + 2 * n - 4 * m ≡ 2 * n = omega arith in
+      rw size (length-take-le (2 * n) (drop (4 * m) stored) (rw (length-drop (4 * m) stored) (omega arith)))
 
 module _ {ws now : List ℕ} {r : Reading} (a : ReadAs ws (zeros listNumbers) now r) where
   reply : readReply r ≡ replyOf (reading ws listNumbers)
@@ -103,29 +114,26 @@ module _ {ws now : List ℕ} {r : Reading} (a : ReadAs ws (zeros listNumbers) no
     stored-are : now ≡ numbersOf ws ++ (needsOf ws ++ left)
     stored-are = rw append-assoc at all-stored
 
-    pub numbers-are : take (4 * m) now ≡ numbersOf ws
+    numbers-are : take (4 * m) now ≡ numbersOf ws
     numbers-are = rw stored-are (take-at (numbersOf ws) (needsOf ws ++ left) (4 * m) numbers-size)
 
-    pub needs-are : {size : ℕ} → size ≡ 2 * n → take size (drop (4 * m) now) ≡ needsOf ws
-    needs-are {size} h =
-        rw (stored-are, drop-at (numbersOf ws) (needsOf ws ++ left) (4 * m) numbers-size)
-        (take-at (needsOf ws) left size (needs-size ∙ sym h))
+    needs-are : take (2 * n) (drop (4 * m) now) ≡ needsOf ws
+    needs-are =
+        rw (stored-are, drop-at (numbersOf ws) (needsOf ws ++ left) (4 * m) numbers-size) (take-at (needsOf ws) left (2 * n) needs-size)
 
-    -- they can be lent
-    pub read-room : 4 * m + 2 * n ≤ length now
+    pub read-room : readPlaces n m ≤ length now
     read-room =
         let L = left in
         rw (stored-are, length-append, length-append) (omega (arith, numbers-size, needs-size))
 
-    pub show-read : {size next : ℕ} {text text′ : List ℕ} → size ≡ 2 * n
-        → Put listWidth (textOf n (take (4 * m) now) (take size (drop (4 * m) now))) text 0 text′ next
+    pub show-read : {next : ℕ} {text text′ : List ℕ} → Put listWidth (textOf n (take (4 * m) now) (take (2 * n) (drop (4 * m) now))) text 0 text′ next
         → SaidAs shownPlaces (told refusedSaying shownSaid (reading ws listNumbers)) text text′ (Text next)
     unfolding told
-    show-read {size} h put =
+    show-read put =
         let xs = take-at (numbersOf ws) (needsOf ws) (4 * pairCount ws) (numbers-length ws) in
         let ys = drop-at (numbersOf ws) (needsOf ws) (4 * pairCount ws) (numbers-length ws) in
-        let here : told refusedSaying shownSaid (reading ws listNumbers) ≡ sayText (textOf n (take (4 * m) now) (take size (drop (4 * m) now))) =
-        rw (is, xs, ys, numbers-are, needs-are h, registers-are) in
+        let here : told refusedSaying shownSaid (reading ws listNumbers) ≡ sayText (textOf n (take (4 * m) now) (take (2 * n) (drop (4 * m) now))) =
+        rw (is, xs, ys, numbers-are, needs-are, registers-are) in
         rw here (said-text put (omega arith))
 
 -- ---- making
@@ -230,6 +238,9 @@ zeros-front zero j h = refl
 zeros-front (suc k) zero h = absurd (omega arith)
 zeros-front (suc k) (suc j) h = ap (λ zs. 0 ∷ zs) (zeros-front k j (omega arith))
 
+pub zeros-lent : (k j : ℕ) → k ≤ j → k ≡ length (take k (zeros j))
+zeros-lent k j h = rw (zeros-front k j h) (sym (zeros-size k))
+
 -- too many registers are refused before the needs are looked at
 many : (n : ℕ) (xs ys : List ℕ) → maxRegisters < n → writing n xs ys maxWords ≡ refused (cond (differ (length xs % 4) 0) 11 12) 0
 unfolding writing orCheck faultAfter
@@ -255,17 +266,20 @@ module _ (bs : List ℕ) (n : ℕ) (xs : List ℕ) {out out′ : List ℕ} {r : 
 
 -- ---- the numbers of a text
 
-module _ (xs was : List ℕ) {count : ℕ} (size : length xs ≡ count) where
-  -- those from i on, and those between the first and them
-  pub part-is : (i : ℕ) → i ≤ count → take (count - i) (drop i (over xs was)) ≡ drop i xs
-  part-is i h =
-      let end = drop (length xs) was in
-      rw (drop-append-le i xs end (omega arith)) (take-at (drop i xs) end (count - i) (length-drop i xs ∙ omega arith))
+module _ (bs : List ℕ) (needs : ℕ) (xs : List ℕ) {out out′ : List ℕ} {r : Made} where
+  pub with-none : needs ≡ 0 → MadeAs (madeFrom bs 0 (getD xs 0 0) (take (length xs - 1) (drop 1 xs)) (zeros (2 * getD xs 0 0))) out out′ r
+      → MadeAs (madeWith bs needs (getD xs 0 0) (drop 1 xs)) out out′ r
+  unfolding needsGiven
+  with-none none made = rw (none, ← lent-is xs 1) made
 
-  pub between-is : (k : ℕ) → 1 + k ≤ count → take k (drop 1 (over xs was)) ≡ take k (drop 1 xs)
-  between-is k h =
-      let end = drop (length xs) was in
-      rw (drop-append-le 1 xs end (omega arith)) (take-append-le k (drop 1 xs) end (rw (length-drop 1 xs) (omega arith)))
+  pub with-some : {from : ℕ} → (needs ≡ 0 → ⊥) → from ≡ 1 + needs
+      → MadeAs (madeFrom bs needs (getD xs 0 0) (take (length xs - from) (drop from xs)) (take (from - 1) (drop 1 xs))) out out′ r
+      → MadeAs (madeWith bs needs (getD xs 0 0) (drop 1 xs)) out out′ r
+  unfolding needsGiven
+  with-some {from} some f made =
+      let back : take (length xs - from) (drop from xs) ≡ drop needs (drop 1 xs) = lent-is xs from ∙ rw f (sym (drop-drop needs 1 xs)) in
+      let size : from - 1 ≡ needs = omega arith in
+      rw (ne-eqb needs 0 some) (rw (back, size) at made)
 
 module _ {text xs : List ℕ} {r : Scanned} (a : ScanAs true text (zeros maxNumbers) xs r) where
   pub make-faulty : {fault line column byte next : ℕ} {out out′ : List ℕ} → r ≡ Faulty fault line column byte
@@ -276,43 +290,17 @@ module _ {text xs : List ℕ} {r : Scanned} (a : ScanAs true text (zeros maxNumb
       rw here (made-fault put)
 
   module _ {count needs : ℕ} (e : r ≡ Numbers count needs) where
-    counted : Counted (storedOf true text) count needs
-    counted = a .counted count needs e
-
-    -- the needs and the numbers of the pairs can be lent
-    pub numbers-some : 1 + needs ≤ count
-    numbers-some = omega (arith, counted .some)
+    pub numbers-some : needs < length (take count xs)
+    numbers-some = rw (stored-front a e) (omega (arith, stored-size a e, a .counted count needs e .some))
 
     pub numbers-most : needs ≤ maxNumbers
-    numbers-most = omega (arith, counted .some, counted .most)
+    numbers-most =
+        let counted = a .counted count needs e in
+        omega (arith, counted .some, counted .most)
 
-    made-is : made text ≡ madeWith text needs (getD xs 0 0) (drop 1 (storedOf true text))
+    pub make-numbers : {answer : Made} {out out′ : List ℕ} → MadeAs (madeWith text needs (getD (take count xs) 0 0) (drop 1 (take count xs))) out out′ answer
+        → MadeAs (made text) out out′ answer
     unfolding madeOf
-    made-is = rw (← a .answer, e, stored-first a e)
-
-    part : (i : ℕ) → i ≤ count → take (count - i) (drop i xs) ≡ drop i (storedOf true text)
-    part i h = rw (a .stored) (part-is (storedOf true text) (zeros maxNumbers) (sym (counted .size)) i h)
-
-    module _ {answer : Made} {out out′ : List ℕ} where
-      pub make-plain : needs ≡ 0 → MadeAs (madeFrom text 0 (getD xs 0 0) (take (count - 1) (drop 1 xs)) (zeros (2 * getD xs 0 0))) out out′ answer
-          → MadeAs (made text) out out′ answer
-      unfolding needsGiven
-      make-plain none m =
-          let n = getD xs 0 0 in
-          let here : made text ≡ madeFrom text 0 n (take (count - 1) (drop 1 xs)) (zeros (2 * n)) =
-          made-is ∙ ap (λ k. madeWith text k n (drop 1 (storedOf true text))) none ∙ rw (part 1 (omega (arith, numbers-some))) in
-          rw here m
-
-      pub make-numbers : {from size : ℕ} → (needs ≡ 0 → ⊥) → from ≡ 1 + needs → size ≡ needs
-          → MadeAs (madeFrom text needs (getD xs 0 0) (take (count - from) (drop from xs)) (take size (drop 1 xs))) out out′ answer
-          → MadeAs (made text) out out′ answer
-      unfolding needsGiven
-      make-numbers {from} {size} some f z m =
-          let stored = storedOf true text in
-          let back : drop needs (drop 1 stored) ≡ take (count - from) (drop from xs) =
-          drop-drop needs 1 stored ∙ rw f (sym (part (1 + needs) numbers-some)) in
-          let front : take needs (drop 1 stored) ≡ take size (drop 1 xs) =
-          rw (z, a .stored) (sym (between-is stored (zeros maxNumbers) (sym (counted .size)) needs numbers-some)) in
-          let here : made text ≡ madeFrom text needs (getD xs 0 0) (take (count - from) (drop from xs)) (take size (drop 1 xs)) =
-          rw (made-is, ne-eqb needs 0 some, back, front) in
-          rw here m
+    make-numbers m =
+        let here : made text ≡ madeWith text needs (getD (take count xs) 0 0) (drop 1 (take count xs)) = rw (← a .answer, e, stored-front a e) in
+        rw here m

@@ -1,20 +1,20 @@
 // A delay list as plain text, and back. What `show` writes, `make` reads back to the same bytes: `proofs/RoundTrip.antt`.
 // The contracts cite `specs/ListText.antt`.
-ghost use Prim.Native.Nat.{_+_, _*_, _≤_};
-ghost use lib.ListN.{length};
+ghost use Prim.Native.Nat.{_+_, _*_, _≤_, _<_};
+ghost use lib.ListN.{length, getD, take, drop};
 ghost use mathlib.Core.Path.{_≡_};
 ghost use Rattle.text_pieces.specs.Pieces.{Put};
 ghost use Rattle.refusals.specs.Reply.{told};
 ghost use Rattle.text_pieces.specs.Saying.{SaidAs};
 ghost use Rattle.refusal_text.specs.RefusalText.{lineWidth, refusedSaying};
-ghost use Rattle.list_format.specs.Read.{reading};
+ghost use Rattle.list_format.specs.Read.{readPlaces, reading};
 ghost use Rattle.list_bytes.specs.ListBytes.{maxBytes};
 ghost use Rattle.timing.specs.Limits.{maxRegisters, maxPairs};
 ghost use Rattle.scan.specs.Scan.{maxNumbers, textBytes};
 ghost use Rattle.list_format.specs.Lists.{noNeeds};
 ghost use Rattle.list_format.specs.Write.{givenNeeds};
 ghost use Rattle.list_text.specs.ListText.{twoWidth, pairWidth, listWidth, shownPlaces, twoLine, fourLine, needsLine, pairLine, textOf};
-ghost use Rattle.list_text.specs.ListText.{listNumbers, shownSaid, shownText, lastOf, refusedLine, madeFrom, made, MadeAs};
+ghost use Rattle.list_text.specs.ListText.{listNumbers, shownSaid, shownText, lastOf, refusedLine, madeFrom, madeWith, made, MadeAs};
 ghost use Rattle.buffers.specs.Run.{run};
 ghost use Rattle.buffers.specs.Over.{zeros};
 ghost use Rattle.words.specs.Bytes.{toBytes};
@@ -140,6 +140,21 @@ fn put_list(text: &mut [u8], n: u32, numbers: &[u32], needs: &[u32]) -> usize
     put_pairs(text, second, numbers, m)
 }
 
+// The text of n registers and m pairs, from what reading stores: four numbers for each pair, then the needs.
+fn put_read(text: &mut [u8], n: u32, m: u32, stored: &[u32]) -> usize
+    requires { ⌜
+        ((n ≤ maxRegisters) × (m ≤ maxPairs)) × ((readPlaces n m ≤ length (now stored)) × (listWidth ≤ length (now text)))
+        ⌝ }
+    ensures { λ r. ⌜
+        Put listWidth (textOf n (take (4 * m) (now (stored .entry))) (take (2 * n) (drop (4 * m) (now (stored .entry)))))
+        (now (text .entry)) 0 (now (text .exit)) r
+        ⌝ }
+{
+    let from = 4 * m as usize;
+    let end = from + 2 * n as usize;
+    put_list(text, n, &stored[..from], &stored[from..end])
+}
+
 // The text for a run of words.
 fn put_words(text: &mut [u8], words: &[u32]) -> Said
     requires { ⌜ shownPlaces ≤ length (now text) ⌝ }
@@ -154,9 +169,7 @@ fn put_words(text: &mut [u8], words: &[u32]) -> Said
             Said::Trouble(size)
         }
         Reading::Read(n, m) => {
-            let from = 4 * m as usize;
-            let end = from + 2 * n as usize;
-            let size = put_list(text, n, &numbers[..from], &numbers[from..end]);
+            let size = put_read(text, n, m, &numbers);
             Said::Text(size)
         }
     }
@@ -221,7 +234,14 @@ fn put_refused(out: &mut [u8], text: &[u8], needs: usize, number: u32, place: us
 }
 
 // The bytes of the list that the numbers and the needs make, which stand in the text; so many of its numbers are needs.
-fn put_made(out: &mut [u8], text: &[u8], needs: usize, n: u32, numbers: &[u32], given: &[u32]) -> Made
+fn put_made(
+    out: &mut [u8],
+    text: &[u8],
+    needs: usize,
+    n: u32,
+    numbers: &[u32],
+    given: &[u32],
+) -> Made
     requires { ⌜ (maxBytes ≤ length (now out)) × ((length (now text) ≤ textBytes) × (needs ≤ maxNumbers)) ⌝ }
     ensures { λ r. ⌜
         MadeAs (madeFrom (now (text .entry)) needs n (now (numbers .entry)) (now (given .entry))) (now (out .entry)) (now (out .exit)) r
@@ -255,6 +275,30 @@ fn put_plain(out: &mut [u8], text: &[u8], n: u32, numbers: &[u32]) -> Made
     put_made(out, text, 0, n, numbers, &none[..count])
 }
 
+// The bytes of the list that the numbers of a text make: the count of registers, then so many needs, then four for each pair.
+fn put_numbers(out: &mut [u8], text: &[u8], needs: usize, numbers: &[u32]) -> Made
+    requires { ⌜
+        ((maxBytes ≤ length (now out)) × (length (now text) ≤ textBytes)) × ((needs < length (now numbers)) × (needs ≤ maxNumbers))
+        ⌝ }
+    ensures { λ r. ⌜
+        MadeAs (madeWith (now (text .entry)) needs (getD (now (numbers .entry)) 0 0) (drop 1 (now (numbers .entry))))
+        (now (out .entry)) (now (out .exit)) r
+        ⌝ }
+{
+    if needs == 0 {
+        return put_plain(out, text, numbers[0], &numbers[1..]);
+    }
+    let from = 1 + needs;
+    put_made(
+        out,
+        text,
+        needs,
+        numbers[0],
+        &numbers[from..],
+        &numbers[1..from],
+    )
+}
+
 // The bytes of the list that a text describes, in the first places of `out`; later places keep their contents. Of a faulty text, or of
 // numbers that make no list, one line says what is wrong.
 pub fn make(text: &[u8], out: &mut [u8; MAX_BYTES]) -> Made
@@ -266,12 +310,6 @@ pub fn make(text: &[u8], out: &mut [u8; MAX_BYTES]) -> Made
             let size = refusal_text::put_fault(out, fault, line, column, byte);
             Made::Fault(size)
         }
-        Scanned::Numbers(count, needs) => {
-            if needs == 0 {
-                return put_plain(out, text, numbers[0], &numbers[1..count]);
-            }
-            let from = 1 + needs;
-            put_made(out, text, needs, numbers[0], &numbers[from..count], &numbers[1..from])
-        }
+        Scanned::Numbers(count, needs) => put_numbers(out, text, needs, &numbers[..count]),
     }
 }
