@@ -249,8 +249,10 @@ many n xs ys h =
     (done ((endPlace n xs ys + 1) ∷ []) (wordsOf n xs ys))
     (rw (ne-eqb n 0 (λ e. omega arith), lt-ltb maxRegisters n h) (go (differ (length xs % 4) 0)))
   where
-    go : (b : Bool)
-        → firstFault ((b, 11, 0) ∷ (false, 12, 0) ∷ (true, 12, 0) ∷ (ltb maxPairs (length xs / 4), 12, 0) ∷ (differ (length ys) (2 * n), 11, 0) ∷ [])
+    few : Bool
+    few = ltb maxPairs (length xs / 4)
+
+    go : (b : Bool) → firstFault ((b, 11, 0) ∷ (false, 12, 0) ∷ (true, 12, 0) ∷ (few, 12, 0) ∷ (differ (length ys) (2 * n), 11, 0) ∷ [])
         ≡ At (cond b 11 12) 0
     go true = refl
     go false = refl
@@ -298,7 +300,8 @@ module _ {text xs : List ℕ} {r : Scanned} (a : ScanAs true text (zeros maxNumb
         let counted = a .counted count needs e in
         omega (arith, counted .some, counted .most)
 
-    pub make-numbers : {answer : Made} {out out′ : List ℕ} → MadeAs (madeWith text needs (getD (take count xs) 0 0) (drop 1 (take count xs))) out out′ answer
+    pub make-numbers : {answer : Made} {out out′ : List ℕ}
+        → MadeAs (madeWith text needs (getD (take count xs) 0 0) (drop 1 (take count xs))) out out′ answer
         → MadeAs (made text) out out′ answer
     unfolding madeOf
     make-numbers m =

@@ -89,7 +89,8 @@ module _ (lined : Bool) (first needs count promised : ℕ) where
       reads-one (sym (there ∙ goes)) (kept-same s (within lined first needs count promised w) refl)
 
   -- a number in decimal
-  digits-in : (k n : ℕ) → n < k → n ≤ maxValue → Reads (at lined first needs count promised) (decimal n) [] (within lined first needs count promised n)
+  digits-in : (k n : ℕ) → n < k → n ≤ maxValue
+      → Reads (at lined first needs count promised) (decimal n) [] (within lined first needs count promised n)
   digits-in zero n h l = absurd (omega arith)
   digits-in (suc k) n h l = go (ltb n 10) refl (digits-in k (n / 10))
     where

@@ -1,8 +1,9 @@
 -- `put_meaning`: the words for a refusal: one answer for each row of the table, and one for the numbers without a row.
 use native.Mathlib.Omega.{arith}
+use lib.ListN.{drop}
 use Rattle.text_pieces.proofs.PutLaws.{put-as}
 use Rattle.refusal_text.specs.RefusalText.{wordsWidth, wordsFor, meanings, meaning}
-use Rattle.refusal_text.proofs.RefusalTextLaws.{others-said}
+use Rattle.refusal_text.proofs.RefusalTextLaws.{NoRow, others-said}
 use borrow.Author.Needs.{needs}
 use Rattle.refusal_text.proofs.put_meaning.Statement.{statement}
 use Rattle.refusal_text.proofs.put_meaning.Tie as tie
@@ -11,8 +12,12 @@ others : tie.Need-returns-15
 unfolding meaning
 others c =
     let r = c .before .before .before .before .before .match .rest in
-    others-said meanings _ (c .before .before .before .before .before .before .before .args .number)
-    (r .0 .0 .0 .0 .0 .0 .0 .0 .0 .0 .0 .0 .0 .1, (r .0 .0 .0 .0 .0 .0 .0 .0 .0 .0 .0 .0 .1, (r .0 .0 .0 .0 .0 .0 .0 .0 .0 .0 .0 .1, (r .0 .0 .0 .0 .0 .0 .0 .0 .0 .0 .1, (r .0 .0 .0 .0 .0 .0 .0 .0 .0 .1, (r .0 .0 .0 .0 .0 .0 .0 .0 .1, (r .0 .0 .0 .0 .0 .0 .0 .1, (r .0 .0 .0 .0 .0 .0 .1, (r .0 .0 .0 .0 .0 .1, (r .0 .0 .0 .0 .1, (r .0 .0 .0 .1, (r .0 .0 .1, (r .0 .1, (r .1, tt))))))))))))))
+    let q = r .0 .0 .0 .0 .0 .0 .0 in
+    let number = c .before .before .before .before .before .before .before .args .number in
+    let later : NoRow (drop 7 meanings) number =
+    (r .0 .0 .0 .0 .0 .0 .1, (r .0 .0 .0 .0 .0 .1, (r .0 .0 .0 .0 .1, (r .0 .0 .0 .1, (r .0 .0 .1, (r .0 .1, (r .1, tt))))))) in
+    others-said meanings _ number
+    (q .0 .0 .0 .0 .0 .0 .1, (q .0 .0 .0 .0 .0 .1, (q .0 .0 .0 .0 .1, (q .0 .0 .0 .1, (q .0 .0 .1, (q .0 .1, (q .1, later)))))))
     (c .before .before .put-bytes15 .ensures) (omega arith)
 
 pub put-meaning-spec : {M : Type 1} → statement M
