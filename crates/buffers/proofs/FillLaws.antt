@@ -91,6 +91,10 @@ module _ (xs was : List ℕ) {now : List ℕ} {k : ℕ} (size : length xs ≡ k)
   pub filled-fits : k ≤ length now
   filled-fits = rw (e, length-append) (omega (arith, size))
 
+-- the first k places were filled, and then those that follow them
+pub over-more : (xs ys was : List ℕ) {now : List ℕ} {k : ℕ} → length xs ≡ k → now ≡ over xs was → over (take k now ++ ys) now ≡ over (xs ++ ys) was
+over-more xs ys was {now} {k} size e = rw (e, take-at xs (drop (length xs) was) k size, length-append xs ys, drop-append-add, drop-drop)
+
 -- a store in the first place, and then what follows it
 pub over-first : (was xs : List ℕ) (v : ℕ) → 0 < length was → over (take 1 (set was 0 v) ++ xs) (set was 0 v) ≡ over (v ∷ xs) was
 over-first [] xs v h = absurd (omega arith)

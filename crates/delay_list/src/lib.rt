@@ -1,24 +1,38 @@
 // Whether a run of words is a delay list, the pairs of an accepted one, and the reader that walks them.
 // The contracts cite `list_format`: where a pair stands, what it is, and every check in its order.
 ghost use mathlib.Core.Path.{_≡_};
+ghost use mathlib.Core.Bool.{_&&_};
+ghost use mathlib.Core.List.{[], _∷_};
 ghost use Prim.Native.Nat.{_+_, _-_, _*_, _^_, _<_, _≤_};
+ghost use lib.Dec.{ltb};
 ghost use lib.ListN.{length};
-ghost use Rattle.words.specs.Word.{countBits};
+ghost use Rattle.words.specs.Word.{countBits, registerBits};
 ghost use Rattle.refusals.specs.Checks.{firstFault, faultAfter};
-ghost use Rattle.list_format.specs.Lists.{word, pairCount, pairPlace, placeOf, pairOf, IsAccepted, PairIn, IsPair, verdict as verdictOf};
-ghost use Rattle.list_format.specs.Lists.{headChecks, kindChecks, valueChecks, pairChecks, endChecks, bodyChecks};
+ghost use Rattle.list_format.specs.Lists.{word, registers, pairCount, needWordsBy, needWords, holdAt, setupAt, needsOf, placeBy, pairPlace, placeOf, pairOf};
+ghost use Rattle.list_format.specs.Lists.{countingNeeds, noNeeds, IsAccepted, PairIn, WrittenIn, IsWritten, IsPair, verdict as verdictOf};
+ghost use Rattle.list_format.specs.Lists.{headChecks, needChecks, blockChecks, kindChecks, valueChecks, pairChecks, endChecks, pairsChecks, bodyChecks};
 ghost use Rattle.list_format.specs.Walk.{nextAt, placeAfter};
 use list_format::Next;
 use list_format::Verdict;
 use refusals::Fault;
 use timing::Pair;
 
-// The place of the first word of pair k; for k = m, that of the end word.
-pub fn pair_place(k: usize) -> usize
-    requires { ⌜ k ≤ 2 ^ countBits ⌝ }
-    ensures { λ r. ⌜ r ≡ pairPlace k ⌝ }
+// The place of the first word of pair k after so many words of needs; for k = m, that of the end word.
+pub fn pair_place(needs: usize, k: usize) -> usize
+    requires { ⌜ (needs ≤ 2 ^ registerBits) × (k ≤ 2 ^ countBits) ⌝ }
+    ensures { λ r. ⌜ r ≡ placeBy needs k ⌝ }
 {
-    3 * k + 1
+    3 * k + 1 + needs
+}
+
+// How many words of needs stand after the head, by it and the word after it.
+fn need_words(head: u32, second: u32) -> usize
+    ensures { λ r. ⌜ (r ≡ needWordsBy head second) × (r < 2 ^ registerBits) ⌝ }
+{
+    if words::kind(second) == words::KIND_NEEDS {
+        return words::head_registers(head) as usize;
+    }
+    0
 }
 
 // The pair that three words make.
@@ -33,9 +47,9 @@ fn pair_of(pair: u32, least: u32, greatest: u32) -> Pair
     }
 }
 
-// 11 and 12: the head word, and the count of words against it.
-fn head_fault(head: u32, len: usize) -> Fault
-    ensures { λ r. ⌜ r ≡ firstFault (headChecks head len) ⌝ }
+// 11 and 12: the head word, and the count of words against it and the word after it.
+fn head_fault(head: u32, second: u32, len: usize) -> Fault
+    ensures { λ r. ⌜ r ≡ firstFault (headChecks head second len) ⌝ }
 {
     let n = words::head_registers(head);
     let m = words::head_pairs(head) as usize;
@@ -46,7 +60,7 @@ fn head_fault(head: u32, len: usize) -> Fault
         .or(n == 0, 12, 0)
         .or(n > timing::MAX_REGISTERS, 12, 0)
         .or(m > timing::MAX_PAIRS, 12, 0)
-        .or(len != pair_place(m) + 1, 11, 0)
+        .or(len != pair_place(need_words(head, second), m) + 1, 11, 0)
 }
 
 // 13: the three words of a pair, of which the first stands at `at`.
@@ -61,16 +75,98 @@ fn kind_fault(pair: u32, least: u32, greatest: u32, at: usize) -> Fault
         .or(words::kind(greatest) != words::KIND_GREATEST, 13, at + 2)
 }
 
-// 14, 15, 16: the values of a pair in a list of n registers, after what was found before.
+// 13: the word of needs of register r.
+fn need_fault(words: &[u32], r: usize) -> Fault
+    requires { ⌜ 1 + r < length (now words) ⌝ }
+    ensures { λ f. ⌜ f ≡ firstFault (needChecks (now (words .entry)) r) ⌝ }
+{
+    let w = words[1 + r];
+    Fault::None
+        .or(words::kind(w) != words::KIND_NEEDS, 13, 1 + r)
+        .or(words::needs_spare(w) != 0, 13, 1 + r)
+        .or(words::hold(w) > timing::MAX_NEED, 13, 1 + r)
+        .or(words::setup(w) > timing::MAX_NEED, 13, 1 + r)
+}
+
+// Whether all needs are 0, in a list with words of needs.
+fn none_needed(words: &[u32], needs: usize) -> bool
+    requires { ⌜ (0 < needs) × ((needs ≡ needWords (now words)) × (needs < length (now words))) ⌝ }
+    ensures { λ r. ⌜ r ≡ noNeeds (needsOf (now (words .entry))) ⌝ }
+{
+    let mut r = 0;
+    while r < needs {
+        let w = words[1 + r];
+        if words::hold(w) != 0 {
+            return false;
+        }
+        if words::setup(w) != 0 {
+            return false;
+        }
+        r += 1;
+    }
+    true
+}
+
+// 18: words of needs, and all needs are 0.
+fn zero_fault(words: &[u32], needs: usize) -> Fault
+    requires { ⌜ (needs ≡ needWords (now words)) × (needs < length (now words)) ⌝ }
+    ensures { λ r. ⌜ r ≡ firstFault ((ltb 0 needs && noNeeds (needsOf (now (words .entry))), 18, 1) ∷ []) ⌝ }
+{
+    if 0 < needs {
+        return Fault::None.or(none_needed(words, needs), 18, 1);
+    }
+    Fault::None
+}
+
+// The words of needs, one by one, then 18.
+fn block_fault(words: &[u32], needs: usize) -> Fault
+    requires { ⌜ (needs ≡ needWords (now words)) × (needs < length (now words)) ⌝ }
+    ensures { λ r. ⌜ r ≡ firstFault (blockChecks (now (words .entry)) needs) ⌝ }
+{
+    let mut r = 0;
+    while r < needs {
+        let found = need_fault(words, r);
+        if let Fault::At(number, place) = found {
+            return Fault::At(number, place);
+        }
+        r += 1;
+    }
+    zero_fault(words, needs)
+}
+
+// The hold need of register r: 0 where there is no word of needs for it.
+pub fn hold_at(words: &[u32], needs: usize, r: u32) -> u32
+    requires { ⌜ (needs ≡ needWords (now words)) × (needs < length (now words)) ⌝ }
+    ensures { λ h. ⌜ h ≡ holdAt (now (words .entry)) r ⌝ }
+{
+    if (r as usize) < needs {
+        return words::hold(words[1 + r as usize]);
+    }
+    0
+}
+
+// The setup need of register r: 0 where there is no word of needs for it.
+pub fn setup_at(words: &[u32], needs: usize, r: u32) -> u32
+    requires { ⌜ (needs ≡ needWords (now words)) × (needs < length (now words)) ⌝ }
+    ensures { λ s. ⌜ s ≡ setupAt (now (words .entry)) r ⌝ }
+{
+    if (r as usize) < needs {
+        return words::setup(words[1 + r as usize]);
+    }
+    0
+}
+
+// 14, 15, 16, 19: the values of a pair in a list of n registers, after what was found before. `hold` is that of the capture register.
 pub fn value_fault(
     found: Fault,
     n: u32,
+    hold: u32,
     p: Pair,
     at: usize,
     least_at: usize,
     greatest_at: usize,
 ) -> Fault
-    ensures { λ r. ⌜ r ≡ faultAfter found (valueChecks n p at «least_at» «greatest_at») ⌝ }
+    ensures { λ r. ⌜ r ≡ faultAfter found (valueChecks n hold p at «least_at» «greatest_at») ⌝ }
 {
     found
         .or(p.launch >= n, 14, at)
@@ -78,20 +174,22 @@ pub fn value_fault(
         .or(p.least > timing::MAX_DELAY, 15, least_at)
         .or(p.greatest > timing::MAX_DELAY, 15, greatest_at)
         .or(p.least > p.greatest, 16, greatest_at)
+        .or(p.least < hold, 19, least_at)
 }
 
 // All checks of pair k.
-fn pair_fault(words: &[u32], n: u32, k: usize) -> Fault
-    requires { ⌜ (k < 2 ^ countBits) × (pairPlace k + 3 ≤ length (now words)) ⌝ }
+fn pair_fault(words: &[u32], needs: usize, n: u32, k: usize) -> Fault
+    requires { ⌜ (needs ≡ needWords (now words)) × ((k < 2 ^ countBits) × (pairPlace (now words) k + 3 ≤ length (now words))) ⌝ }
     ensures { λ r. ⌜ r ≡ firstFault (pairChecks (now (words .entry)) n k) ⌝ }
 {
-    let at = pair_place(k);
+    let at = pair_place(needs, k);
     let pair = words[at];
     let least = words[at + 1];
     let greatest = words[at + 2];
     let found = kind_fault(pair, least, greatest, at);
     let p = pair_of(pair, least, greatest);
-    value_fault(found, n, p, at, at + 1, at + 2)
+    let hold = hold_at(words, needs, p.capture);
+    value_fault(found, n, hold, p, at, at + 1, at + 2)
 }
 
 // 13 and 17: the end word, which stands at `at`.
@@ -106,28 +204,39 @@ fn end_fault(words: &[u32], at: usize) -> Fault
         .or(words::payload(last) != sum, 17, at)
 }
 
-// The checks of all that stands after the head: pair by pair, then the end.
-fn body_fault(words: &[u32], n: u32, m: usize) -> Fault
-    requires { ⌜ (m < 2 ^ countBits) × (length (now words) ≡ pairPlace m + 1) ⌝ }
-    ensures { λ r. ⌜ r ≡ firstFault (bodyChecks (now (words .entry)) n m) ⌝ }
+// The pairs, one by one, then the end.
+fn pairs_fault(words: &[u32], needs: usize, n: u32, m: usize) -> Fault
+    requires { ⌜ (needs ≡ needWords (now words)) × ((m < 2 ^ countBits) × (length (now words) ≡ pairPlace (now words) m + 1)) ⌝ }
+    ensures { λ r. ⌜ r ≡ firstFault (pairsChecks (now (words .entry)) n m) ⌝ }
 {
     let mut k = 0;
     while k < m {
-        let found = pair_fault(words, n, k);
+        let found = pair_fault(words, needs, n, k);
         if let Fault::At(number, place) = found {
             return Fault::At(number, place);
         }
         k += 1;
     }
-    end_fault(words, pair_place(m))
+    end_fault(words, pair_place(needs, m))
 }
 
-// The first word, or 0 if there is none.
-fn first_word(words: &[u32]) -> u32
-    ensures { λ r. ⌜ r ≡ word (now (words .entry)) 0 ⌝ }
+// The checks of all that stands after the head.
+fn body_fault(words: &[u32], needs: usize, n: u32, m: usize) -> Fault
+    requires { ⌜ (needs ≡ needWords (now words)) × ((m < 2 ^ countBits) × (length (now words) ≡ pairPlace (now words) m + 1)) ⌝ }
+    ensures { λ r. ⌜ r ≡ firstFault (bodyChecks (now (words .entry)) n m) ⌝ }
 {
-    if 0 < words.len() {
-        return words[0];
+    match block_fault(words, needs) {
+        Fault::At(number, place) => Fault::At(number, place),
+        Fault::None => pairs_fault(words, needs, n, m),
+    }
+}
+
+// Word i, or 0 if there is none.
+fn word_at(words: &[u32], i: usize) -> u32
+    ensures { λ r. ⌜ r ≡ word (now (words .entry)) i ⌝ }
+{
+    if i < words.len() {
+        return words[i];
     }
     0
 }
@@ -136,24 +245,32 @@ fn first_word(words: &[u32]) -> u32
 pub fn verdict(words: &[u32]) -> Verdict
     ensures { λ r. ⌜ r ≡ verdictOf (now (words .entry)) ⌝ }
 {
-    let head = first_word(words);
-    if let Fault::At(number, place) = head_fault(head, words.len()) {
+    let head = word_at(words, 0);
+    let second = word_at(words, 1);
+    if let Fault::At(number, place) = head_fault(head, second, words.len()) {
         return Verdict::Refused(number, place);
     }
     let n = words::head_registers(head);
     let m = words::head_pairs(head);
-    match body_fault(words, n, m as usize) {
+    match body_fault(words, need_words(head, second), n, m as usize) {
         Fault::At(number, place) => Verdict::Refused(number, place),
         Fault::None => Verdict::Accepted(n, m),
     }
 }
 
-// Pair k, from its three words.
+// How many words of needs a list has.
+pub fn need_count(words: &[u32]) -> usize
+    ensures { λ r. ⌜ r ≡ needWords (now (words .entry)) ⌝ }
+{
+    need_words(word_at(words, 0), word_at(words, 1))
+}
+
+// Pair k as it is written, from its three words.
 fn pair_from(words: &[u32], k: usize) -> Pair
     requires { ⌜ PairIn (now words) k ⌝ }
-    ensures { λ r. ⌜ IsPair (now (words .entry)) k r ⌝ }
+    ensures { λ r. ⌜ IsWritten (now (words .entry)) k r ⌝ }
 {
-    let at = pair_place(k);
+    let at = pair_place(need_words(words[0], words[1]), k);
     pair_of(words[at], words[at + 1], words[at + 2])
 }
 
@@ -161,7 +278,7 @@ fn pair_from(words: &[u32], k: usize) -> Pair
 fn pair_count(words: &[u32]) -> usize
     ensures { λ r. ⌜ r ≡ pairCount (now (words .entry)) ⌝ }
 {
-    words::head_pairs(first_word(words)) as usize
+    words::head_pairs(word_at(words, 0)) as usize
 }
 
 // How many pairs are left from pair k on.
@@ -210,10 +327,10 @@ impl<'a> Reader<'a> {
         Reader { words, at: k }
     }
 
-    // The pair that it has come to, where there is one.
+    // The pair that it has come to, as it is written, where there is one.
     pub fn pair(self) -> Pair
         requires { ⌜ PairIn (now (self .words)) (self .at) ⌝ }
-        ensures { λ r. ⌜ IsPair (now (self .entry .words)) (self .entry .at) r ⌝ }
+        ensures { λ r. ⌜ IsWritten (now (self .entry .words)) (self .entry .at) r ⌝ }
     {
         pair_from(self.words, self.at)
     }
@@ -236,12 +353,37 @@ impl<'a> Reader<'a> {
     }
 }
 
-// Pair k of an accepted list, from a reader that has come to it.
+// Pair k of an accepted list as it is written, from a reader that has come to it.
+fn written_at(words: &[u32], k: usize) -> Pair
+    requires { ⌜ PairIn (now words) k ⌝ }
+    ensures { λ r. ⌜ IsWritten (now (words .entry)) k r ⌝ }
+{
+    Reader::new(words, k).pair()
+}
+
+// A pair of an accepted list with the needs of its capture register counted in.
+fn count_needs(words: &[u32], p: Pair) -> Pair
+    requires { ⌜ IsAccepted (now words) × WrittenIn (registers (now words)) (holdAt (now words) (p .capture)) p ⌝ }
+    ensures { λ r. ⌜ r ≡ countingNeeds (now (words .entry)) p ⌝ }
+{
+    if words::kind(words[1]) != words::KIND_NEEDS {
+        return p;
+    }
+    let need = words[1 + p.capture as usize];
+    Pair {
+        launch: p.launch,
+        capture: p.capture,
+        least: p.least - words::hold(need),
+        greatest: p.greatest + words::setup(need),
+    }
+}
+
+// Pair k of an accepted list, with the needs of its capture register counted in.
 pub fn pair_at(words: &[u32], k: usize) -> Pair
     requires { ⌜ PairIn (now words) k ⌝ }
     ensures { λ r. ⌜ IsPair (now (words .entry)) k r ⌝ }
 {
-    Reader::new(words, k).pair()
+    count_needs(words, written_at(words, k))
 }
 
 // The i-th pair of a walk over m pairs: up the list, or from its end if down.

@@ -5,14 +5,14 @@ use mathlib.Core.List.{List, []}
 use mathlib.Core.Path.{_≡_}
 use lib.Dec.{ltb, leb, eqb}
 use lib.ListN.{length, getD}
-use Rattle.timing.specs.Limits.{maxPairs}
+use Rattle.timing.specs.Limits.{maxRegisters, maxPairs}
 use Rattle.buffers.specs.Over.{over}
 use Rattle.words.specs.Bytes.{toWords}
-use Rattle.list_format.specs.Lists.{pairPlace}
+use Rattle.list_format.specs.Lists.{placeBy}
 
 -- the words and the bytes of the longest list
 abbrev pub maxWords : ℕ
-maxWords = pairPlace maxPairs + 1
+maxWords = placeBy maxRegisters maxPairs + 1
 
 abbrev pub maxBytes : ℕ
 maxBytes = 4 * maxWords
@@ -36,7 +36,7 @@ blankByte b = eqb b 9 || (eqb b 10 || (eqb b 13 || (eqb b 32 || (eqb b 35 || eqb
 unfoldable pub textByte : ℕ → Bool
 textByte b = cond (ltb b 48) (blankByte b) (cond (ltb 57 b) (eqb b 239) true)
 
--- bytes that begin as a text does, and not as a list: there the seventh byte, of the first pair, is below 9, or the eighth, of the end
--- word, is 224 or more
+-- bytes that begin as a text does, and not as a list: there the seventh byte, of the first pair, is below 9, or the eighth, of a word of needs
+-- or of the end word, is 160 or more
 unfoldable pub looksLikeText : List ℕ → Bool
 looksLikeText bs = textByte (getD bs 0 0) && cond (ltb (length bs) 8) true (leb 9 (getD bs 6 0) && ltb (getD bs 7 0) 128)

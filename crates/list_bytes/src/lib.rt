@@ -4,9 +4,10 @@ ghost use mathlib.Core.Path.{_≡_};
 ghost use lib.ListN.{getD};
 ghost use Rattle.list_bytes.specs.ListBytes.{LoadedAs, blankByte, textByte, looksLikeText};
 use timing::MAX_PAIRS;
+use timing::MAX_REGISTERS;
 
 // The words and the bytes of the longest list.
-pub const MAX_WORDS: usize = 3 * MAX_PAIRS + 2;
+pub const MAX_WORDS: usize = 3 * MAX_PAIRS + 2 + MAX_REGISTERS as usize;
 
 pub const MAX_BYTES: usize = 4 * MAX_WORDS;
 

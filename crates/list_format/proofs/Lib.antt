@@ -1,5 +1,6 @@
 -- The laws, which other crates may cite too.
 pub mod ListLaws
+pub mod NeedsLaws
 pub mod WalkLaws
 pub mod ReadBack
 pub mod WriteBack

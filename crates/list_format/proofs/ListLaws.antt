@@ -1,24 +1,29 @@
 -- What it means for a list to be accepted, fact by fact, and what follows for its pairs.
 use Prim.Native.Nat.{ℕ, zero, suc, _+_, _*_, _-_, _<_, _≤_}
-use mathlib.Core.Bool.{Bool, true, false, not}
+use mathlib.Core.Bool.{Bool, true, false, not, cond, _&&_}
 use mathlib.Core.List.{List, [], _∷_, _++_}
+use mathlib.Core.Logic.{_⊎_, inl, inr}
 use mathlib.Core.Path.{_≡_, refl, sym, _∙_, ap}
 use native.Mathlib.Omega.{arith}
+use lib.Dec.{ltb, eqb}
 use lib.ListN.{length, take}
-use borrow.Author.Tests.{ltb-false, le-ltb, leb-false, lt-leb, eqb-true, eqb-false, eq-eqb, ne-eqb, not-false}
+use borrow.Author.Tests.{ltb-true, ltb-false, lt-ltb, le-ltb, leb-false, lt-leb, eqb-true, eqb-false, eq-eqb, ne-eqb, not-false}
 use Rattle.timing.specs.declared.Pair.{Pair}
 use Rattle.timing.specs.Rules.{Each, InRange}
-use Rattle.timing.specs.Limits.{maxRegisters, maxPairs, maxDelay, maxPeriod}
-use Rattle.words.specs.Word.{kindHead, kindPair, kindLeast, kindGreatest, kindEnd, kindOf, payloadOf, headSpare, pairSpare, checksum}
+use Rattle.timing.specs.Limits.{maxRegisters, maxPairs, maxDelay, maxNeed, maxPeriod}
+use Rattle.words.specs.Word.{kindHead, kindPair, kindLeast, kindGreatest, kindNeeds, kindEnd, kindOf, payloadOf, headSpare, pairSpare, checksum}
+use Rattle.words.specs.Word.{holdOf, setupOf, needsSpare}
 use Rattle.refusals.specs.Checks.{Check, firstFault, eachCheck}
 use Rattle.refusals.specs.Reply.{numbers, Outcome, replyOf, answered}
 use Rattle.refusals.specs.declared.Fault.{Fault}
 use Rattle.refusals.specs.declared.Fault.the-variants.{None, At}
-use Rattle.refusals.proofs.CheckLaws.{stop-first, pass-first, both-pass, pass-both, passed, passes, each-passes, all-pass}
+use Rattle.refusals.proofs.CheckLaws.{stop-first, pass-first, both-pass, pass-both, passed, passes, each-of, all-of}
 use Rattle.refusals.proofs.ReplyLaws.{numbers-none}
-use Rattle.list_format.specs.Lists.{word, registers, pairCount, pairPlace, pairAt, pairsFrom, pairs, placeOf}
-use Rattle.list_format.specs.Lists.{differ, headChecks, kindChecks, valueChecks, pairChecks, endChecks, bodyChecks, listChecks}
-use Rattle.list_format.specs.Lists.{judged, verdict, ValuesIn, IsAccepted, AcceptedList, PairIn, IsPair}
+use Rattle.list_format.specs.Lists.{word, registers, pairCount, needWordsBy, needWords, holdAt, setupAt, needsOf, placeBy, pairPlace, writtenAt}
+use Rattle.list_format.specs.Lists.{countingNeeds, pairAt, pairsFrom, pairs, placeOf, noNeeds}
+use Rattle.list_format.specs.Lists.{differ, headChecks, needChecks, blockChecks, kindChecks, valueChecks, pairChecks, endChecks, pairsChecks}
+use Rattle.list_format.specs.Lists.{bodyChecks, listChecks}
+use Rattle.list_format.specs.Lists.{judged, verdict, NeedsIn, ValuesIn, WrittenIn, IsAccepted, AcceptedList, PairIn, IsWritten, IsPair}
 use Rattle.list_format.specs.declared.Verdict.{Verdict}
 use Rattle.list_format.specs.declared.Verdict.the-variants.{Accepted, Refused}
 
@@ -34,16 +39,17 @@ module _ (ws : List ℕ) where
   none→accepted e = ap (judged ws) e
 
   -- the head decides, or else what stands after it
-  pub head-refuses : {number place : ℕ} → firstFault (headChecks (word ws 0) (length ws)) ≡ At number place → verdict ws ≡ Refused number place
-  head-refuses e = fault→refused (stop-first (headChecks (word ws 0) (length ws)) (bodyChecks ws (registers ws) (pairCount ws)) e)
+  pub head-refuses : {number place : ℕ} → firstFault (headChecks (word ws 0) (word ws 1) (length ws)) ≡ At number place
+      → verdict ws ≡ Refused number place
+  head-refuses e = fault→refused (stop-first (headChecks (word ws 0) (word ws 1) (length ws)) (bodyChecks ws (registers ws) (pairCount ws)) e)
 
-  module _ (head : firstFault (headChecks (word ws 0) (length ws)) ≡ None) where
+  module _ (head : firstFault (headChecks (word ws 0) (word ws 1) (length ws)) ≡ None) where
     pub body-refuses : {number place : ℕ} → firstFault (bodyChecks ws (registers ws) (pairCount ws)) ≡ At number place
         → verdict ws ≡ Refused number place
-    body-refuses e = fault→refused (pass-first (headChecks (word ws 0) (length ws)) (bodyChecks ws (registers ws) (pairCount ws)) head ∙ e)
+    body-refuses e = fault→refused (pass-first (headChecks (word ws 0) (word ws 1) (length ws)) (bodyChecks ws (registers ws) (pairCount ws)) head ∙ e)
 
     pub body-accepts : firstFault (bodyChecks ws (registers ws) (pairCount ws)) ≡ None → IsAccepted ws
-    body-accepts e = none→accepted (pass-both (headChecks (word ws 0) (length ws)) (bodyChecks ws (registers ws) (pairCount ws)) head e)
+    body-accepts e = none→accepted (pass-both (headChecks (word ws 0) (word ws 1) (length ws)) (bodyChecks ws (registers ws) (pairCount ws)) head e)
 
   judged-refused : (f : Fault) {number place : ℕ} → judged ws f ≡ Refused number place → f ≡ At number place
   unfolding judged
@@ -85,6 +91,12 @@ pub record KindsIn (p least greatest : ℕ) : Type 0 where
   pub leastKind : kindOf least ≡ kindLeast
   pub greatestKind : kindOf greatest ≡ kindGreatest
 
+-- a word of needs
+pub record NeedWordIn (w : ℕ) : Type 0 where
+  pub kind : kindOf w ≡ kindNeeds
+  pub spare : needsSpare w ≡ 0
+  pub needs : NeedsIn (holdOf w) (setupOf w)
+
 -- the head and the count of words
 pub record HeadIn (ws : List ℕ) : Type 0 where
   pub kind : kindOf (word ws 0) ≡ kindHead
@@ -92,7 +104,7 @@ pub record HeadIn (ws : List ℕ) : Type 0 where
   pub some : 0 < registers ws
   pub most : registers ws ≤ maxRegisters
   pub few : pairCount ws ≤ maxPairs
-  pub size : length ws ≡ pairPlace (pairCount ws) + 1
+  pub size : length ws ≡ pairPlace ws (pairCount ws) + 1
 
 -- the end word
 pub record EndIn (ws : List ℕ) (at : ℕ) : Type 0 where
@@ -105,21 +117,30 @@ same a b e = eqb-true a b (not-false _ e)
 pub no-difference : (a b : ℕ) → a ≡ b → differ a b ≡ Bool.false
 no-difference a b e = ap not (eq-eqb a b e)
 
-module _ (n : ℕ) (p : Pair) (at leastAt greatestAt : ℕ) where
-  pub values-in : firstFault (valueChecks n p at leastAt greatestAt) ≡ None → ValuesIn n p
+module _ (n hold : ℕ) (p : Pair) (at leastAt greatestAt : ℕ) where
+  pub values-in : firstFault (valueChecks n hold p at leastAt greatestAt) ≡ None → WrittenIn n hold p
   values-in e =
-      let h = passed (valueChecks n p at leastAt greatestAt) e in
+      let h = passed (valueChecks n hold p at leastAt greatestAt) e in
       record {
-        launch = leb-false _ _ (h .0);
-        capture = leb-false _ _ (h .1 .0);
-        order = ltb-false _ _ (h .1 .1 .1 .1 .0);
-        limit = ltb-false _ _ (h .1 .1 .1 .0);
+        values = record {
+          launch = leb-false _ _ (h .0);
+          capture = leb-false _ _ (h .1 .0);
+          order = ltb-false _ _ (h .1 .1 .1 .1 .0);
+          limit = ltb-false _ _ (h .1 .1 .1 .0);
+        };
+        holds = ltb-false _ _ (h .1 .1 .1 .1 .1 .0);
       }
 
-  pub values-pass : ValuesIn n p → firstFault (valueChecks n p at leastAt greatestAt) ≡ None
-  values-pass v =
-      passes (valueChecks n p at leastAt greatestAt)
-      (lt-leb _ _ (v .launch), (lt-leb _ _ (v .capture), (le-ltb maxDelay (p .least) (omega arith), (le-ltb _ _ (v .limit), (le-ltb _ _ (v .order), tt)))))
+  pub values-pass : WrittenIn n hold p → firstFault (valueChecks n hold p at leastAt greatestAt) ≡ None
+  values-pass w =
+      let v = w .values in
+      passes (valueChecks n hold p at leastAt greatestAt) (
+        lt-leb _ _ (v .launch),
+        (
+          lt-leb _ _ (v .capture),
+          (le-ltb maxDelay (p .least) (omega arith), (le-ltb _ _ (v .limit), (le-ltb _ _ (v .order), (le-ltb _ _ (w .holds), tt)))),
+        ),
+      )
 
 module _ (p least greatest at : ℕ) where
   kinds-in : firstFault (kindChecks p least greatest at) ≡ None → KindsIn p least greatest
@@ -133,9 +154,9 @@ module _ (p least greatest at : ℕ) where
       (no-difference _ _ (k .kind), (no-difference _ _ (k .spare), (no-difference _ _ (k .leastKind), (no-difference _ _ (k .greatestKind), tt))))
 
 module _ (ws : List ℕ) where
-  pub head-in : firstFault (headChecks (word ws 0) (length ws)) ≡ None → HeadIn ws
+  pub head-in : firstFault (headChecks (word ws 0) (word ws 1) (length ws)) ≡ None → HeadIn ws
   head-in e =
-      let h = passed (headChecks (word ws 0) (length ws)) e in
+      let h = passed (headChecks (word ws 0) (word ws 1) (length ws)) e in
       record {
         kind = same _ _ (h .1 .0);
         spare = same _ _ (h .1 .1 .0);
@@ -145,9 +166,9 @@ module _ (ws : List ℕ) where
         size = same _ _ (h .1 .1 .1 .1 .1 .1 .0);
       }
 
-  head-pass : HeadIn ws → firstFault (headChecks (word ws 0) (length ws)) ≡ None
+  head-pass : HeadIn ws → firstFault (headChecks (word ws 0) (word ws 1) (length ws)) ≡ None
   head-pass h =
-      passes (headChecks (word ws 0) (length ws)) (
+      passes (headChecks (word ws 0) (word ws 1) (length ws)) (
         le-ltb (length ws) 2 (omega (arith, h .size)),
         (
           no-difference _ _ (h .kind),
@@ -157,6 +178,21 @@ module _ (ws : List ℕ) where
           ),
         ),
       )
+
+  module _ (r : ℕ) where
+    need-in : firstFault (needChecks ws r) ≡ None → NeedWordIn (word ws (1 + r))
+    need-in e =
+        let h = passed (needChecks ws r) e in
+        record {
+          kind = same _ _ (h .0);
+          spare = same _ _ (h .1 .0);
+          needs = record { hold = ltb-false _ _ (h .1 .1 .0); setup = ltb-false _ _ (h .1 .1 .1 .0) };
+        }
+
+    need-pass : NeedWordIn (word ws (1 + r)) → firstFault (needChecks ws r) ≡ None
+    need-pass w =
+        passes (needChecks ws r)
+        (no-difference _ _ (w .kind), (no-difference _ _ (w .spare), (le-ltb _ _ (w .needs .hold), (le-ltb _ _ (w .needs .setup), tt))))
 
   module _ (at : ℕ) where
     end-in : firstFault (endChecks ws at) ≡ None → EndIn ws at
@@ -169,43 +205,57 @@ module _ (ws : List ℕ) where
 
   -- ---- an accepted list, fact by fact
 
-  -- A run of checks finds nothing exactly where each of its parts finds nothing: the head, pair by pair, the end. A check that
+  -- A run of checks finds nothing exactly where each of its parts finds nothing: the head, need by need, pair by pair, the end. A check that
   -- passes is the fact that it tests. So these facts and an empty finding follow from each other (`list-in`, `list-pass`).
   pub record ListIn : Type 0 where
     pub head : HeadIn ws
-    pub kinds : (k : ℕ) → k < pairCount ws → KindsIn (word ws (pairPlace k)) (word ws (pairPlace k + 1)) (word ws (pairPlace k + 2))
-    pub values : (k : ℕ) → k < pairCount ws → ValuesIn (registers ws) (pairAt ws k)
-    pub end : EndIn ws (pairPlace (pairCount ws))
+    pub needs : (r : ℕ) → r < needWords ws → NeedWordIn (word ws (1 + r))
+    pub needed : ltb 0 (needWords ws) && noNeeds (needsOf ws) ≡ false
+    pub kinds : (k : ℕ) → k < pairCount ws → KindsIn (word ws (pairPlace ws k)) (word ws (pairPlace ws k + 1)) (word ws (pairPlace ws k + 2))
+    pub values : (k : ℕ) → k < pairCount ws → WrittenIn (registers ws) (holdAt ws (writtenAt ws k .capture)) (writtenAt ws k)
+    pub end : EndIn ws (pairPlace ws (pairCount ws))
 
   pub list-in : firstFault (listChecks ws) ≡ None → ListIn
   list-in e =
-      let body = both-pass (headChecks (word ws 0) (length ws)) (bodyChecks ws (registers ws) (pairCount ws)) e in
-      let rest = both-pass (eachCheck (pairChecks ws (registers ws)) 0 (pairCount ws)) (endChecks ws (pairPlace (pairCount ws))) (body .1) in
+      let body = both-pass (headChecks (word ws 0) (word ws 1) (length ws)) (bodyChecks ws (registers ws) (pairCount ws)) e in
+      let block = both-pass (blockChecks ws (needWords ws)) (pairsChecks ws (registers ws) (pairCount ws)) (body .1) in
+      let needs = both-pass (eachCheck (needChecks ws) 0 (needWords ws)) _ (block .0) in
+      let rest = both-pass (eachCheck (pairChecks ws (registers ws)) 0 (pairCount ws)) (endChecks ws (pairPlace ws (pairCount ws))) (block .1) in
       record {
         head = head-in (body .0);
+        needs = λ r h. need-in r (each-of (needChecks ws) (needWords ws) (needs .0) r h);
+        needed = passed _ (needs .1) .0;
         kinds = λ k h. kinds-in _ _ _ _ (parts k (rest .0) h .0);
-        values = λ k h. values-in _ _ _ _ _ (parts k (rest .0) h .1);
+        values = λ k h. values-in _ _ _ _ _ _ (parts k (rest .0) h .1);
         end = end-in _ (rest .1);
       }
     where
       parts : (k : ℕ) → firstFault (eachCheck (pairChecks ws (registers ws)) 0 (pairCount ws)) ≡ None → k < pairCount ws
-          → (firstFault (kindChecks (word ws (pairPlace k)) (word ws (pairPlace k + 1)) (word ws (pairPlace k + 2)) (pairPlace k)) ≡ None)
-          × (firstFault (valueChecks (registers ws) (pairAt ws k) (pairPlace k) (pairPlace k + 1) (pairPlace k + 2)) ≡ None)
-      parts k e h =
-          let z : 0 + k ≡ k = omega arith in
-          both-pass _ _ (rw z at (each-passes (pairChecks ws (registers ws)) 0 (pairCount ws) e k h))
+          → (firstFault (kindChecks (word ws (pairPlace ws k)) (word ws (pairPlace ws k + 1)) (word ws (pairPlace ws k + 2)) (pairPlace ws k)) ≡ None)
+          × (firstFault (valueChecks (registers ws) (holdAt ws (writtenAt ws k .capture)) (writtenAt ws k)
+          (pairPlace ws k) (pairPlace ws k + 1) (pairPlace ws k + 2)) ≡ None)
+      parts k e h = both-pass _ _ (each-of (pairChecks ws (registers ws)) (pairCount ws) e k h)
 
   pub list-pass : ListIn → firstFault (listChecks ws) ≡ None
   list-pass l =
-      pass-both (headChecks (word ws 0) (length ws)) (bodyChecks ws (registers ws) (pairCount ws)) (head-pass (l .head))
-      (pass-both (eachCheck (pairChecks ws (registers ws)) 0 (pairCount ws)) (endChecks ws (pairPlace (pairCount ws)))
-      (all-pass (pairChecks ws (registers ws)) 0 (pairCount ws) each)
-      (end-pass _ (l .end)))
+      pass-both (headChecks (word ws 0) (word ws 1) (length ws)) (bodyChecks ws (registers ws) (pairCount ws)) (head-pass (l .head))
+      (pass-both (blockChecks ws (needWords ws)) (pairsChecks ws (registers ws) (pairCount ws))
+      (pass-both (eachCheck (needChecks ws) 0 (needWords ws)) _
+      (all-of (needChecks ws) (needWords ws) (λ r h. need-pass r (l .needs r h)))
+      (passes _ (l .needed, tt)))
+      (pass-both (eachCheck (pairChecks ws (registers ws)) 0 (pairCount ws)) (endChecks ws (pairPlace ws (pairCount ws)))
+      (all-of (pairChecks ws (registers ws)) (pairCount ws)
+      (λ k h. pass-both _ _ (kinds-pass _ _ _ _ (l .kinds k h)) (values-pass _ _ _ _ _ _ (l .values k h))))
+      (end-pass _ (l .end))))
+
+  -- no need is above the limit
+  pub needs-within : ListIn → (r : ℕ) → NeedsIn (holdAt ws r) (setupAt ws r)
+  unfolding holdAt setupAt
+  needs-within l r = go (ltb r (needWords ws)) refl
     where
-      each : (k : ℕ) → k < pairCount ws → firstFault (pairChecks ws (registers ws) (0 + k)) ≡ None
-      each k h =
-          let z : 0 + k ≡ k = omega arith in
-          rw z (pass-both _ _ (kinds-pass _ _ _ _ (l .kinds k h)) (values-pass _ _ _ _ _ (l .values k h)))
+      go : (below : Bool) → ltb r (needWords ws) ≡ below → NeedsIn (cond below (holdOf (word ws (1 + r))) 0) (cond below (setupOf (word ws (1 + r))) 0)
+      go true e = l .needs r (ltb-true r (needWords ws) e) .needs
+      go false e = record { hold = omega arith; setup = omega arith }
 
   pub accepted-in : IsAccepted ws → ListIn
   accepted-in a = list-in (accepted→none ws a .none)
@@ -219,16 +269,31 @@ module _ (ws : List ℕ) where
   -- pair k stands in the list
   pub record Stands (k : ℕ) : Type 0 where
     pub few : k < maxPairs
-    pub room : pairPlace k + 3 < length ws
+    pub room : pairPlace ws k + 3 < length ws
 
   pub stands : (k : ℕ) → PairIn ws k → Stands k
   stands k p =
       let h = accepted-in (p .accepted) .head in
       record { few = omega (arith, h .few, p .below); room = omega (arith, h .size, p .below) }
 
-  pub is-pair : (k : ℕ) → PairIn ws k → IsPair ws k (pairAt ws k)
-  is-pair k p =
+  pub is-written : (k : ℕ) → PairIn ws k → IsWritten ws k (writtenAt ws k)
+  is-written k p =
       record { same = refl; values = accepted-in (p .accepted) .values k (p .below) }
+
+  pub is-pair : (k : ℕ) → PairIn ws k → IsPair ws k (pairAt ws k)
+  unfolding pairAt
+  is-pair k p =
+      let v = accepted-in (p .accepted) .values k (p .below) .values in
+      let s = needs-within (accepted-in (p .accepted)) (writtenAt ws k .capture) .setup in
+      record {
+        same = refl;
+        values = record { launch = v .launch; capture = v .capture; order = omega (arith, v .order); limit = omega (arith, v .limit, s) };
+      }
+
+  -- with its needs counted in it is the pair of the jobs
+  pub is-counted : (k : ℕ) → PairIn ws k → {p : Pair} → IsWritten ws k p → IsPair ws k (countingNeeds ws p)
+  unfolding pairAt
+  is-counted k p w = rw (w .same) (is-pair k p)
 
   -- a property of each pair of the list
   each-from : (P : Pair → Type 0) (k left : ℕ) → ((i : ℕ) → i < k + left → P (pairAt ws i)) → Each P (pairsFrom ws k left)
@@ -258,12 +323,12 @@ module _ (ws : List ℕ) where
   pub pairs-in-range : IsAccepted ws → Each (InRange (registers ws)) (pairs ws)
   pairs-in-range a =
       each-pair (InRange (registers ws)) (λ k h.
-      let v = accepted-in a .values k h in
+      let v = is-pair k (record { accepted = a; below = h }) .values in
       record { launch = v .launch; capture = v .capture })
 
   -- no pair asks for more than the longest period
   pub pairs-within : IsAccepted ws → Each (λ p. p .greatest ≤ maxPeriod) (pairs ws)
-  pairs-within a = each-pair (λ p. p .greatest ≤ maxPeriod) (λ k h. omega (arith, accepted-in a .values k h .limit))
+  pairs-within a = each-pair (λ p. p .greatest ≤ maxPeriod) (λ k h. is-pair k (record { accepted = a; below = h }) .values .limit)
 
   -- an accepted list has at least one register, and no more registers and pairs than the limits
   module _ {n m : ℕ} (l : AcceptedList ws n m) where

@@ -4,13 +4,13 @@ use mathlib.Core.Bool.{cond}
 use mathlib.Core.List.{List, [], _∷_}
 use lib.Dec.{ltb}
 use Rattle.timing.specs.declared.Pair.{Pair}
-use Rattle.list_format.specs.Lists.{pairCount, pairAt}
+use Rattle.list_format.specs.Lists.{pairCount, writtenAt}
 use Rattle.list_format.specs.declared.Next.{Next}
 use Rattle.list_format.specs.declared.Next.the-variants.{One, End}
 
--- pair k, and from m on the end
+-- pair k as it is written, and from m on the end
 abbrev pub nextAt : List ℕ → ℕ → Next
-nextAt ws k = cond (ltb k (pairCount ws)) (One (pairAt ws k)) End
+nextAt ws k = cond (ltb k (pairCount ws)) (One (writtenAt ws k)) End
 
 -- the place after k; the end stays the end
 abbrev pub placeAfter : List ℕ → ℕ → ℕ

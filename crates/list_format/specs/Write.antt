@@ -1,17 +1,18 @@
--- Writing a delay list from plain numbers: n, and launch, capture, least and greatest of each pair.
+-- Writing a delay list from plain numbers: n, launch, capture, least and greatest of each pair, and hold and setup of each register.
 use Prim.Native.Nat.{ℕ, _+_, _*_, _/_, _%_, _^_, _<_, _≤_}
+use mathlib.Core.Bool.{cond}
 use mathlib.Core.List.{List, [], _∷_, _++_}
 use mathlib.Core.Path.{_≡_}
 use lib.Dec.{ltb, eqb}
 use lib.ListN.{length, getD}
 use Rattle.timing.specs.declared.Pair.{Pair}
 use Rattle.timing.specs.Rules.{pair}
-use Rattle.timing.specs.Limits.{maxRegisters, maxPairs}
-use Rattle.words.specs.Word.{registerBits, payloadBits, headWord, pairWord, leastWord, greatestWord, endWord, checksum}
+use Rattle.timing.specs.Limits.{maxRegisters, maxPairs, maxNeed}
+use Rattle.words.specs.Word.{registerBits, payloadBits, needBits, headWord, needsWord, pairWord, leastWord, greatestWord, endWord, checksum}
 use Rattle.buffers.specs.Run.{run}
 use Rattle.refusals.specs.Checks.{Check, eachCheck}
 use Rattle.refusals.specs.Reply.{Reply, refusal, numbers, Outcome, done, answered}
-use Rattle.list_format.specs.Lists.{pairPlace, differ, valueChecks, ValuesIn}
+use Rattle.list_format.specs.Lists.{placeBy, differ, noNeeds, valueChecks, NeedsIn, WrittenIn}
 use Rattle.list_format.specs.declared.Writing.{Writing}
 use Rattle.list_format.specs.declared.Writing.the-variants.{Written, Refused}
 
@@ -23,6 +24,17 @@ givenCount xs = length xs / 4
 abbrev pub givenPair : List ℕ → ℕ → Pair
 givenPair xs k = pair (getD xs (4 * k) 0) (getD xs (4 * k + 1) 0) (getD xs (4 * k + 2) 0) (getD xs (4 * k + 3) 0)
 
+-- hold and setup of register r, of the needs
+abbrev pub givenHold : List ℕ → ℕ → ℕ
+givenHold ys r = getD ys (2 * r) 0
+
+abbrev pub givenSetup : List ℕ → ℕ → ℕ
+givenSetup ys r = getD ys (2 * r + 1) 0
+
+-- how many words of needs are written: none if all needs are 0
+unfoldable pub givenNeeds : ℕ → List ℕ → ℕ
+givenNeeds n ys = cond (noNeeds ys) 0 n
+
 -- ---- the words
 
 -- the values of a pair fit their fields
@@ -32,54 +44,84 @@ pub record FitsWords (p : Pair) : Type 0 where
   pub least : p .least < 2 ^ payloadBits
   pub greatest : p .greatest < 2 ^ payloadBits
 
+-- so do those of the first m pairs of the numbers
+abbrev pub PairsFit : List ℕ → ℕ → Type 0
+PairsFit xs m = (k : ℕ) → k < m → FitsWords (givenPair xs k)
+
+-- and the needs of the first so many registers
+abbrev pub NeedsFit : List ℕ → ℕ → Type 0
+NeedsFit ys needs = (r : ℕ) → r < needs → (givenHold ys r < 2 ^ needBits) × (givenSetup ys r < 2 ^ needBits)
+
 abbrev pub threeOf : Pair → List ℕ
 threeOf p = pairWord (p .launch) (p .capture) ∷ leastWord (p .least) ∷ greatestWord (p .greatest) ∷ []
 
--- the head and the words of the first k pairs
-abbrev pub openList : ℕ → List ℕ → ℕ → List ℕ
-openList n xs k = headWord n (givenCount xs) ∷ run (λ i. threeOf (givenPair xs i)) k
+abbrev pub oneOf : List ℕ → ℕ → List ℕ
+oneOf ys r = needsWord (givenHold ys r) (givenSetup ys r) ∷ []
+
+-- the head and the words of needs
+abbrev pub openHead : ℕ → List ℕ → List ℕ → List ℕ
+openHead n xs ys = headWord n (givenCount xs) ∷ run (oneOf ys) (givenNeeds n ys)
+
+-- and the words of the first k pairs
+abbrev pub openList : ℕ → List ℕ → List ℕ → ℕ → List ℕ
+openList n xs ys k = openHead n xs ys ++ run (λ i. threeOf (givenPair xs i)) k
 
 -- the end word added
 abbrev pub withEnd : List ℕ → List ℕ
 withEnd ws = ws ++ (endWord (checksum ws) ∷ [])
 
 -- the whole list
-abbrev pub wordsOf : ℕ → List ℕ → List ℕ
-wordsOf n xs = withEnd (openList n xs (givenCount xs))
+abbrev pub wordsOf : ℕ → List ℕ → List ℕ → List ℕ
+wordsOf n xs ys = withEnd (openList n xs ys (givenCount xs))
+
+-- the place of its end word
+abbrev pub endPlace : ℕ → List ℕ → List ℕ → ℕ
+endPlace n xs ys = placeBy (givenNeeds n ys) (givenCount xs)
 
 -- ---- the checks, in order
 
--- 11: the numbers are not four for each pair. 12: n or m out of range
-abbrev pub countChecks : ℕ → ℕ → List Check
-countChecks n len =
+-- 11: the numbers are not four for each pair. 12: n or m out of range. 11: the needs are not two for each register
+abbrev pub countChecks : ℕ → ℕ → ℕ → List Check
+countChecks n len needs =
     (differ (len % 4) 0, 11, 0)
     ∷ (eqb n 0, 12, 0)
     ∷ (ltb maxRegisters n, 12, 0)
     ∷ (ltb maxPairs (len / 4), 12, 0)
+    ∷ (differ needs (2 * n), 11, 0)
     ∷ []
 
--- 14, 15, 16, the place being the pair's index
-abbrev pub givenChecks : ℕ → List ℕ → ℕ → List Check
-givenChecks n xs k = valueChecks n (givenPair xs k) k k k
+-- 13, the place being the register
+abbrev pub givenNeedChecks : List ℕ → ℕ → List Check
+givenNeedChecks ys r = (ltb maxNeed (givenHold ys r), 13, r) ∷ (ltb maxNeed (givenSetup ys r), 13, r) ∷ []
 
--- all m pairs, then 2: an answer buffer of fewer than 3m + 2 places
-abbrev pub givenBody : ℕ → List ℕ → ℕ → ℕ → List Check
-givenBody n xs m room = eachCheck (givenChecks n xs) 0 m ++ ((ltb room (pairPlace m + 1), 2, 0) ∷ [])
+-- 14, 15, 16, 19, the place being the pair's index
+abbrev pub givenChecks : ℕ → List ℕ → List ℕ → ℕ → List Check
+givenChecks n xs ys k = valueChecks n (givenHold ys (givenPair xs k .capture)) (givenPair xs k) k k k
 
-abbrev pub writeChecks : ℕ → List ℕ → ℕ → List Check
-writeChecks n xs room = countChecks n (length xs) ++ givenBody n xs (givenCount xs) room
+-- all m pairs, then 2: an answer buffer with no place for the end word
+abbrev pub givenPairs : ℕ → List ℕ → List ℕ → ℕ → ℕ → List Check
+givenPairs n xs ys m room = eachCheck (givenChecks n xs ys) 0 m ++ ((ltb room (placeBy (givenNeeds n ys) m + 1), 2, 0) ∷ [])
 
--- what the checks leave: as many numbers as four a pair, counts and values in range
-pub record GivenIn (n : ℕ) (xs : List ℕ) : Type 0 where
+-- all n registers, then the pairs and the room
+abbrev pub givenBody : ℕ → List ℕ → List ℕ → ℕ → ℕ → List Check
+givenBody n xs ys m room = eachCheck (givenNeedChecks ys) 0 n ++ givenPairs n xs ys m room
+
+abbrev pub writeChecks : ℕ → List ℕ → List ℕ → ℕ → List Check
+writeChecks n xs ys room = countChecks n (length xs) (length ys) ++ givenBody n xs ys (givenCount xs) room
+
+-- what the checks leave: as many numbers as four a pair and two a register, counts and values in range
+pub record GivenIn (n : ℕ) (xs ys : List ℕ) : Type 0 where
   pub size : length xs ≡ 4 * givenCount xs
   pub some : 0 < n
   pub most : n ≤ maxRegisters
   pub few : givenCount xs ≤ maxPairs
-  pub values : (k : ℕ) → k < givenCount xs → ValuesIn n (givenPair xs k)
+  pub two : length ys ≡ 2 * n
+  pub needs : (r : ℕ) → r < n → NeedsIn (givenHold ys r) (givenSetup ys r)
+  pub values : (k : ℕ) → k < givenCount xs → WrittenIn n (givenHold ys (givenPair xs k .capture)) (givenPair xs k)
 
 -- writing into `room` places: the count of words is returned, and that many places are filled
-unfoldable pub writing : ℕ → List ℕ → ℕ → Outcome
-writing n xs room = answered (writeChecks n xs room) (done ((pairPlace (givenCount xs) + 1) ∷ []) (wordsOf n xs))
+unfoldable pub writing : ℕ → List ℕ → List ℕ → ℕ → Outcome
+writing n xs ys room = answered (writeChecks n xs ys room) (done ((endPlace n xs ys + 1) ∷ []) (wordsOf n xs ys))
 
 -- the number and values of each case of the answer
 unfoldable pub writeReply : Writing → Reply

@@ -9,7 +9,7 @@ use lib.ListN.{length}
 use borrow.Author.Tests.{ltb-true, ltb-false, lt-ltb, le-ltb}
 use Rattle.buffers.specs.Over.{over}
 use Rattle.buffers.proofs.FillLaws.{Filling, filling-room, filling-size, filling-turn, filling-end}
-use Rattle.list_format.specs.Lists.{pairCount, pairAt}
+use Rattle.list_format.specs.Lists.{pairCount, writtenAt}
 use Rattle.list_format.specs.Read.{fourOf, numbersOf}
 use Rattle.list_format.specs.Walk.{nextAt, placeAfter}
 use Rattle.list_format.specs.declared.Next.{Next}
@@ -18,7 +18,7 @@ use Rattle.read_list.specs.Stored.{isOne, stored}
 
 -- the numbers of the pairs before k stand in the buffer
 abbrev pub ReadTo : List ℕ → List ℕ → List ℕ → ℕ → Type 0
-ReadTo ws was now k = Filling [] (λ k. fourOf (pairAt ws k)) (pairCount ws) was now k
+ReadTo ws was now k = Filling [] (λ k. fourOf (writtenAt ws k)) (pairCount ws) was now k
 
 -- a reader at k has come to a pair, or to the end
 module _ (ws : List ℕ) (k : ℕ) where
@@ -26,7 +26,7 @@ module _ (ws : List ℕ) (k : ℕ) where
   unfolding isOne
   at-pair one = go (ltb k (pairCount ws)) refl one
     where
-      go : (below : Bool) → ltb k (pairCount ws) ≡ below → Holds (isOne (cond below (One (pairAt ws k)) End)) → k < pairCount ws
+      go : (below : Bool) → ltb k (pairCount ws) ≡ below → Holds (isOne (cond below (One (writtenAt ws k)) End)) → k < pairCount ws
       go true e one = ltb-true k (pairCount ws) e
       go false e one = absurd one
 
@@ -34,7 +34,7 @@ module _ (ws : List ℕ) (k : ℕ) where
   unfolding isOne
   at-end none = go (ltb k (pairCount ws)) refl none
     where
-      go : (below : Bool) → ltb k (pairCount ws) ≡ below → Holds (not (isOne (cond below (One (pairAt ws k)) End))) → pairCount ws ≤ k
+      go : (below : Bool) → ltb k (pairCount ws) ≡ below → Holds (not (isOne (cond below (One (writtenAt ws k)) End))) → pairCount ws ≤ k
       go true e none = absurd none
       go false e none = ltb-false k (pairCount ws) e
 

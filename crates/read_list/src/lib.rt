@@ -1,12 +1,12 @@
-// Job 1, reading: a delay list into plain numbers, four for each pair.
+// Job 1, reading: a delay list into plain numbers, four for each pair and then two for each register.
 // The contract cites `list_format`: `specs/Read.antt` for the outcome, `specs/RoundTrip.antt` for the whole promise.
 ghost use mathlib.Core.Path.{_≡_};
 ghost use mathlib.Core.Bool.{true};
-ghost use mathlib.Core.List.{_++_};
-ghost use Prim.Native.Nat.{_+_, _*_, _≤_};
+ghost use mathlib.Core.List.{[], _∷_, _++_};
+ghost use Prim.Native.Nat.{_+_, _*_, _<_, _≤_};
 ghost use lib.ListN.{length, take, drop};
 ghost use Rattle.buffers.specs.Over.{over};
-ghost use Rattle.list_format.specs.Lists.{pairCount, IsAccepted};
+ghost use Rattle.list_format.specs.Lists.{registers, pairCount, needWords, twoAt, needsOf, IsAccepted};
 ghost use Rattle.list_format.specs.Read.{fourOf, numbersOf};
 ghost use Rattle.list_format.specs.RoundTrip.{ReadAs};
 ghost use Rattle.read_list.specs.Stored.{isOne, stored};
@@ -53,19 +53,49 @@ fn fill(words: &[u32], answer: &mut [u32])
     }
 }
 
-// Reads a delay list. The counts of registers and pairs are returned, and the first places of the buffer
-// hold launch, capture, least and greatest of each pair; later places keep their contents. A refusal changes nothing.
+// Hold and setup of a register, stored from `at` on.
+fn put_needs(answer: &mut [u32], at: usize, hold: u32, setup: u32)
+    requires { ⌜ at + 2 ≤ length (now answer) ⌝ }
+    ensures { λ _. ⌜
+        now (answer .exit) ≡ take at (now (answer .entry)) ++ ((hold ∷ setup ∷ []) ++ drop (at + 2) (now (answer .entry)))
+        ⌝ }
+{
+    answer[at] = hold;
+    answer[at + 1] = setup;
+}
+
+// Hold and setup of all registers, from `at` on.
+fn fill_needs(words: &[u32], n: u32, at: usize, answer: &mut [u32])
+    requires { ⌜
+        (n ≡ registers (now words))
+        × ((needWords (now words) < length (now words)) × (at + 2 * n ≤ length (now answer)))
+        ⌝ }
+    ensures { λ _. ⌜ now (answer .exit) ≡ over (take at (now (answer .entry)) ++ needsOf (now (words .entry))) (now (answer .entry)) ⌝ }
+{
+    let needs = delay_list::need_count(words);
+    let mut r = 0;
+    while r < n {
+        let hold = delay_list::hold_at(words, needs, r);
+        let setup = delay_list::setup_at(words, needs, r);
+        put_needs(answer, at + 2 * r as usize, hold, setup);
+        r += 1;
+    }
+}
+
+// Reads a delay list. The counts of registers and pairs are returned, and the first places of the buffer hold launch, capture, least and
+// greatest of each pair, then hold and setup of each register; later places keep their contents. A refusal changes nothing.
 pub fn read(words: &[u32], answer: &mut [u32]) -> Reading
     ensures { λ r. ⌜ ReadAs (now (words .entry)) (now (answer .entry)) (now (answer .exit)) r ⌝ }
 {
     match delay_list::verdict(words) {
         Verdict::Refused(number, place) => Reading::Refused(number, place),
         Verdict::Accepted(n, m) => {
-            let count = m as usize;
-            if answer.len() < 4 * count {
+            let four = 4 * m as usize;
+            if answer.len() < four + 2 * n as usize {
                 return Reading::Refused(2, 0);
             }
             fill(words, answer);
+            fill_needs(words, n, four, answer);
             Reading::Read(n, m)
         }
     }

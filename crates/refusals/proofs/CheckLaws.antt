@@ -94,7 +94,7 @@ module _ (f : ℕ → List Check) (after : List Check) (m : ℕ) where
         w .same ∙ rw z
 
 -- all pass exactly if each does
-pub each-passes : (f : ℕ → List Check) (i k : ℕ) → firstFault (eachCheck f i k) ≡ None → (j : ℕ) → j < k → firstFault (f (i + j)) ≡ None
+each-passes : (f : ℕ → List Check) (i k : ℕ) → firstFault (eachCheck f i k) ≡ None → (j : ℕ) → j < k → firstFault (f (i + j)) ≡ None
 unfolding eachCheck
 each-passes f i zero e j h = absurd (omega arith)
 each-passes f i (suc k) e zero h =
@@ -104,7 +104,7 @@ each-passes f i (suc k) e (suc j) h =
     let z : i + suc j ≡ i + 1 + j = omega arith in
     rw z (each-passes f (i + 1) k (both-pass (f i) (eachCheck f (i + 1) k) e .1) j (omega arith))
 
-pub all-pass : (f : ℕ → List Check) (i k : ℕ) → ((j : ℕ) → j < k → firstFault (f (i + j)) ≡ None) → firstFault (eachCheck f i k) ≡ None
+all-pass : (f : ℕ → List Check) (i k : ℕ) → ((j : ℕ) → j < k → firstFault (f (i + j)) ≡ None) → firstFault (eachCheck f i k) ≡ None
 unfolding eachCheck faultAfter
 all-pass f i zero h = refl
 all-pass f i (suc k) h =
@@ -115,3 +115,12 @@ all-pass f i (suc k) h =
     later j l =
         let z : i + suc j ≡ i + 1 + j = omega arith in
         rw z at (h (suc j) (omega arith))
+
+-- the same for the checks of the things from 0 on
+pub each-of : (f : ℕ → List Check) (k : ℕ) → firstFault (eachCheck f 0 k) ≡ None → (j : ℕ) → j < k → firstFault (f j) ≡ None
+each-of f k e j h =
+    let z : 0 + j ≡ j = omega arith in
+    rw z at (each-passes f 0 k e j h)
+
+pub all-of : (f : ℕ → List Check) (k : ℕ) → ((j : ℕ) → j < k → firstFault (f j) ≡ None) → firstFault (eachCheck f 0 k) ≡ None
+all-of f k h = all-pass f 0 k (λ j l. let z : 0 + j ≡ j = omega arith in rw z (h j l))

@@ -13,13 +13,17 @@ maxPairs = 2_048
 abbrev pub maxDelay : ℕ
 maxDelay = 1_000_000
 
--- period, 1 to this
+-- setup and hold need of a register, 0 to this
+abbrev pub maxNeed : ℕ
+maxNeed = 9_999
+
+-- period, 1 to this: the greatest delay with the longest setup
 abbrev pub maxPeriod : ℕ
-maxPeriod = 1_000_000
+maxPeriod = maxDelay + maxNeed
 
 -- offset, 0 to this
 abbrev pub maxOffset : ℕ
-maxOffset = 1_000_000
+maxOffset = maxPeriod
 
 -- timing of a register, 0 to this: each register but one may be a longest period later than another
 abbrev pub maxTiming : ℕ

@@ -12,9 +12,13 @@ pub const MAX_PAIRS: usize = 2_048;
 
 pub const MAX_DELAY: u32 = 1_000_000;
 
-pub const MAX_PERIOD: u32 = 1_000_000;
+// The setup and the hold need of a register.
+pub const MAX_NEED: u32 = 9_999;
 
-pub const MAX_OFFSET: u32 = 1_000_000;
+// The greatest delay with the longest setup.
+pub const MAX_PERIOD: u32 = MAX_DELAY + MAX_NEED;
+
+pub const MAX_OFFSET: u32 = MAX_PERIOD;
 
 // Each register but one may be a longest period later than another.
 pub const MAX_TIMING: u32 = (MAX_REGISTERS - 1) * MAX_PERIOD;

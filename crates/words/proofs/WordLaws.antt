@@ -8,6 +8,7 @@ use native.Mathlib.Omega.{arith}
 use lib.ListN.{length, take, getD}
 use Rattle.words.specs.Word.{payloadBits, countBits, registerBits, wordBits, kindHead, kindPair, kindOf, payloadOf, headPairs, headRegisters}
 use Rattle.words.specs.Word.{headSpare, captureOf, launchOf, pairSpare, wordOf, headWord, pairWord, total, wrappedSum}
+use Rattle.words.specs.Word.{needBits, kindNeeds, holdOf, setupOf, needsSpare, needsWord}
 
 -- ---- any kind of word
 
@@ -45,6 +46,20 @@ pair-of-word a b ha hb = omega arith
 
 pub word-of-pair : (w : ℕ) → kindOf w ≡ kindPair → pairSpare w ≡ 0 → pairWord (launchOf w) (captureOf w) ≡ w
 word-of-pair w k s = omega arith
+
+-- ---- a word of needs
+
+pub record NeedsWordIs (hold setup w : ℕ) : Type 0 where
+  pub kind : kindOf w ≡ kindNeeds
+  pub spare : needsSpare w ≡ 0
+  pub holds : holdOf w ≡ hold
+  pub setups : setupOf w ≡ setup
+
+pub needs-of-word : (h s : ℕ) → h < 2 ^ needBits → s < 2 ^ needBits → NeedsWordIs h s (needsWord h s)
+needs-of-word h s hh hs = omega arith
+
+pub word-of-needs : (w : ℕ) → kindOf w ≡ kindNeeds → needsSpare w ≡ 0 → needsWord (holdOf w) (setupOf w) ≡ w
+word-of-needs w k s = omega arith
 
 -- ---- the sum
 

@@ -19,6 +19,10 @@ countBits = 12
 abbrev pub registerBits : ℕ
 registerBits = 10
 
+-- of the hold and of the setup need of a register
+abbrev pub needBits : ℕ
+needBits = 14
+
 -- ---- the kinds
 
 abbrev pub kindHead : ℕ
@@ -32,6 +36,9 @@ kindLeast = 3
 
 abbrev pub kindGreatest : ℕ
 kindGreatest = 4
+
+abbrev pub kindNeeds : ℕ
+kindNeeds = 5
 
 abbrev pub kindEnd : ℕ
 kindEnd = 7
@@ -70,6 +77,16 @@ launchOf = field registerBits registerBits
 abbrev pub pairSpare : ℕ → ℕ
 pairSpare = field (2 * registerBits) (payloadBits - 2 * registerBits)
 
+-- word of needs: the hold and the setup of a register, a bit that must be zero
+abbrev pub holdOf : ℕ → ℕ
+holdOf = field 0 needBits
+
+abbrev pub setupOf : ℕ → ℕ
+setupOf = field needBits needBits
+
+abbrev pub needsSpare : ℕ → ℕ
+needsSpare = field (2 * needBits) (payloadBits - 2 * needBits)
+
 -- ---- words made from their fields
 
 abbrev pub wordOf : ℕ → ℕ → ℕ
@@ -80,6 +97,9 @@ headWord n m = wordOf kindHead (n * 2 ^ countBits + m)
 
 abbrev pub pairWord : ℕ → ℕ → ℕ
 pairWord launch capture = wordOf kindPair (launch * 2 ^ registerBits + capture)
+
+abbrev pub needsWord : ℕ → ℕ → ℕ
+needsWord hold setup = wordOf kindNeeds (setup * 2 ^ needBits + hold)
 
 abbrev pub leastWord : ℕ → ℕ
 leastWord = wordOf kindLeast

@@ -9,6 +9,7 @@ ghost use Prim.Native.Nat.{_-_, _^_, _<_, _≤_};
 ghost use lib.ListN.{length, take};
 ghost use Rattle.words.specs.Word.{wordBits, payloadBits, countBits, registerBits, kindOf, payloadOf, headPairs, headRegisters, headSpare};
 ghost use Rattle.words.specs.Word.{captureOf, launchOf, pairSpare, wordOf, headWord, pairWord, wrappedSum, checksum};
+ghost use Rattle.words.specs.Word.{needBits, holdOf, setupOf, needsSpare, needsWord};
 
 // The kinds of words.
 pub const KIND_HEAD: u32 = 1;
@@ -18,6 +19,8 @@ pub const KIND_PAIR: u32 = 2;
 pub const KIND_LEAST: u32 = 3;
 
 pub const KIND_GREATEST: u32 = 4;
+
+pub const KIND_NEEDS: u32 = 5;
 
 pub const KIND_END: u32 = 7;
 
@@ -30,10 +33,15 @@ const COUNT: u32 = 0x1000;
 // A register, and the count of registers, has 10 bits: in a pair word the launch register counts in these.
 const REGISTER: u32 = 0x400;
 
-// The spare bits of a head word and of a pair word count in these: they stand between what the word holds and its kind.
+// A need has 14 bits: in a word of needs the setup counts in these.
+const NEED: u32 = 0x4000;
+
+// The spare bits of a head word, of a pair word and of a word of needs count in these: they stand between what the word holds and its kind.
 const HEAD_USED: u32 = COUNT * REGISTER;
 
 const PAIR_USED: u32 = REGISTER * REGISTER;
+
+const NEEDS_USED: u32 = NEED * NEED;
 
 pub fn kind(w: u32) -> u32
     ensures { λ r. ⌜ r ≡ kindOf w ⌝ }
@@ -87,6 +95,27 @@ pub fn pair_spare(w: u32) -> u32
     w / PAIR_USED % (KIND / PAIR_USED)
 }
 
+// The hold need in a word of needs.
+pub fn hold(w: u32) -> u32
+    ensures { λ r. ⌜ r ≡ holdOf w ⌝ }
+{
+    w % NEED
+}
+
+// The setup need.
+pub fn setup(w: u32) -> u32
+    ensures { λ r. ⌜ r ≡ setupOf w ⌝ }
+{
+    w / NEED % NEED
+}
+
+// The bit of a word of needs that must be zero.
+pub fn needs_spare(w: u32) -> u32
+    ensures { λ r. ⌜ r ≡ needsSpare w ⌝ }
+{
+    w / NEEDS_USED % (KIND / NEEDS_USED)
+}
+
 // The word of a kind with a payload.
 pub fn word_of(kind: u32, payload: u32) -> u32
     requires { ⌜ (kind < 2 ^ (wordBits - payloadBits)) × (payload < 2 ^ payloadBits) ⌝ }
@@ -107,6 +136,13 @@ pub fn pair_word(launch: u32, capture: u32) -> u32
     ensures { λ r. ⌜ r ≡ pairWord launch capture ⌝ }
 {
     word_of(KIND_PAIR, launch * REGISTER + capture)
+}
+
+pub fn needs_word(hold: u32, setup: u32) -> u32
+    requires { ⌜ (hold < 2 ^ needBits) × (setup < 2 ^ needBits) ⌝ }
+    ensures { λ r. ⌜ r ≡ needsWord hold setup ⌝ }
+{
+    word_of(KIND_NEEDS, setup * NEED + hold)
 }
 
 // The sum of the first `count` words, carries out of the word dropped.

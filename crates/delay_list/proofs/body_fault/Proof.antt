@@ -1,41 +1,27 @@
--- `body_fault`: the first fault of the pairs, one by one, and of the end.
--- Invariant `Remaining`: what is left of the checks decides as the whole does. What falls: m - k.
-use Prim.Native.Nat.{_-_}
+-- The words of needs decide, or else the pairs and the end.
 use mathlib.Core.Path.{sym, _∙_}
-use native.Mathlib.Omega.{arith}
-use Rattle.refusals.proofs.CheckLaws.{Remaining, remaining-start, remaining-turn, remaining-stops, remaining-end}
-use Rattle.list_format.specs.Lists.{pairPlace, pairChecks, endChecks}
+use Rattle.refusals.proofs.CheckLaws.{stop-first, pass-first}
+use Rattle.list_format.specs.Lists.{needWords, blockChecks, pairsChecks}
 use borrow.Author.Needs.{needs}
 use Rattle.delay_list.proofs.body_fault.Statement.{statement}
 use Rattle.delay_list.proofs.body_fault.Tie as tie
 
-abbrev Inv-loop : tie.InvT-loop
-Inv-loop words n m k₀ k = Remaining (pairChecks words n) (endChecks words (pairPlace m)) m k
-
-abbrev μ-loop : tie.MeasureT-loop
-μ-loop words n m k₀ k = m - k
-
-loop-holds : tie.Need-loop-holds Inv-loop μ-loop
-loop-holds c = remaining-start _ _ _
-
-returns : tie.Need-returns Inv-loop μ-loop
+returns : tie.Need-returns
 returns c =
-    let at = c .before .before .before .before .before .loop in
-    sym (remaining-stops _ _ _ (at .inv) (omega arith) (sym (c .before .before .before .pair-fault .ensures) ∙ c .before .found .given .1))
+    let s = c .before .before .before .before .before in
+    let ws = s .args .words .now in
+    let found = sym (c .before .before .before .block-fault .ensures) ∙ c .before .number .given .1 in
+    sym (stop-first (blockChecks ws (needWords ws)) (pairsChecks ws (s .args .n) (s .args .m)) (rw (s .pre .0) at found))
 
-loop-again : tie.Need-loop-again Inv-loop μ-loop
-loop-again c =
-    let at = c .before .before .before .before .loop in
-    remaining-turn _ _ _ (at .inv) (omega arith) (sym (c .before .before .pair-fault .ensures) ∙ c .enum-told .given .1)
-
-returns-2 : tie.Need-returns-2 Inv-loop μ-loop
+returns-2 : tie.Need-returns-2
 returns-2 c =
-    let at = c .before .before .before .loop in
-    rw (c .end-fault .ensures, c .before .pair-place .ensures) (sym (remaining-end _ _ _ (at .inv) (omega arith)))
+    let s = c .before .before .before .before .before in
+    let ws = s .args .words .now in
+    let none = sym (c .before .before .before .block-fault .ensures) ∙ c .before .enum-told .given .1 in
+    c .pairs-fault .ensures ∙ sym (pass-first (blockChecks ws (needWords ws)) (pairsChecks ws (s .args .n) (s .args .m)) (rw (s .pre .0) at none))
 
 pub body-fault-spec : {M : Type 1} → statement M
 body-fault-spec =
     tie.close
     (tie.spec
-    Inv-loop μ-loop loop-holds (λ c κs. search needs) (λ c. search needs) returns (λ c. search needs)
-    (λ c. search needs) (λ c. search needs) loop-again (λ c κs. search needs) (λ c κs. search needs) returns-2)
+    (λ c κs. search needs) (λ c. search needs) (λ c. search needs) (λ c κs. search needs) returns returns-2)

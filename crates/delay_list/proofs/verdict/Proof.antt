@@ -7,51 +7,45 @@ use Rattle.delay_list.proofs.verdict.Statement.{statement}
 use Rattle.delay_list.proofs.verdict.Tie as tie
 
 returns : tie.Need-returns
-returns c = sym (head-refuses (c .before .before .before .before .before .before .args .words .now)
-    (rw (c .before .before .before .before .first-word .ensures) at (sym (c .before .before .before .head-fault .ensures) ∙ c .before .number .given .1)))
+returns c =
+    let words = c .before .before .before .before in
+    sym (head-refuses (words .before .before .before .args .words .now)
+    (rw (words .before .word-at .ensures, words .word-at2 .ensures) at (sym (c .before .before .before .head-fault .ensures) ∙ c .before .number .given .1)))
 
 body-fault-requires : tie.Need-body-fault-requires
 body-fault-requires c κs =
-    let ws = c .before .before .before .before .before .before .before .args .words .now in
-    let h = head-in ws (rw (c .before .before .before .before .before .first-word .ensures) at
-    (sym (c .before .before .before .before .head-fault .ensures) ∙ c .before .before .enum-told .given .1)) in
-    rw (c .head-pairs .ensures, c .before .before .before .before .before .first-word .ensures) (omega arith, h .size)
+    let words = c .before .before .before .before .before .before in
+    let h = head-in (words .before .before .before .args .words .now) (rw (words .before .word-at .ensures, words .word-at2 .ensures) at
+    (sym (c .before .before .before .before .before .head-fault .ensures) ∙ c .before .before .before .enum-told .given .1)) in
+    rw (c .need-words .ensures .0, c .before .head-pairs .ensures, words .before .word-at .ensures, words .word-at2 .ensures)
+    (omega arith, (omega arith, h .size))
 
 returns-2 : tie.Need-returns-2
 returns-2 c =
-    let ws = c .before .before .before .before .before .before .before .before .before .before .before .args .words .now in
-    let h = rw (c .before .before .before .before .before .before .before .before .before .first-word .ensures) at
-    (sym (c .before .before .before .before .before .before .before .before .head-fault .ensures) ∙
-    c .before .before .before .before .before .before .enum-told .given .1) in
-    let b = rw (
-      c .before .before .before .before .head-pairs .ensures,
-      c .before .before .before .before .before .head-registers .ensures,
-      c .before .before .before .before .before .before .before .before .before .first-word .ensures,
-    ) at
+    let words = c .before .before .before .before .before .before .before .before .before .before in
+    let counts = c .before .before .before .before .before in
+    let ws = words .before .before .before .args .words .now in
+    let h = rw (words .before .word-at .ensures, words .word-at2 .ensures) at
+    (sym (counts .before .before .before .before .head-fault .ensures) ∙ counts .before .before .enum-told .given .1) in
+    let b = rw (counts .head-pairs .ensures, counts .before .head-registers .ensures, words .before .word-at .ensures) at
     (sym (c .before .before .before .body-fault .ensures) ∙ c .before .number2 .given .1) in
     sym (body-refuses ws h b)
 
 returns-3 : tie.Need-returns-3
 returns-3 c =
-    let ws = c .before .before .before .before .before .before .before .before .before .before .args .words .now in
-    let h = rw (c .before .before .before .before .before .before .before .before .first-word .ensures) at
-    (sym (c .before .before .before .before .before .before .before .head-fault .ensures) ∙ c .before .before .before .before .before .enum-told .given .1) in
-    let b = rw (
-      c .before .before .before .head-pairs .ensures,
-      c .before .before .before .before .head-registers .ensures,
-      c .before .before .before .before .before .before .before .before .first-word .ensures,
-    ) at
+    let words = c .before .before .before .before .before .before .before .before .before in
+    let counts = c .before .before .before .before in
+    let ws = words .before .before .before .args .words .now in
+    let h = rw (words .before .word-at .ensures, words .word-at2 .ensures) at
+    (sym (counts .before .before .before .before .head-fault .ensures) ∙ counts .before .before .enum-told .given .1) in
+    let b = rw (counts .head-pairs .ensures, counts .before .head-registers .ensures, words .before .word-at .ensures) at
     (sym (c .before .before .body-fault .ensures) ∙ c .enum-told2 .given .1) in
-    rw (
-      c .before .before .before .head-pairs .ensures,
-      c .before .before .before .before .head-registers .ensures,
-      c .before .before .before .before .before .before .before .before .first-word .ensures,
-    ) (sym (body-accepts ws h b))
+    rw (counts .head-pairs .ensures, counts .before .head-registers .ensures, words .before .word-at .ensures) (sym (body-accepts ws h b))
 
 pub verdict-spec : {M : Type 1} → statement M
 verdict-spec =
     tie.close
     (tie.spec
-    (λ c κs. search needs) (λ c κs. search needs) (λ c. search needs) returns (λ c. search needs)
-    (λ c κs. search needs) (λ c κs. search needs) (λ c. search needs) body-fault-requires (λ c. search needs)
-    (λ c. search needs) returns-2 returns-3)
+    (λ c κs. search needs) (λ c κs. search needs) (λ c κs. search needs) (λ c. search needs) returns (λ c. search needs)
+    (λ c κs. search needs) (λ c κs. search needs) (λ c κs. search needs) (λ c. search needs) body-fault-requires
+    (λ c. search needs) (λ c. search needs) returns-2 returns-3)

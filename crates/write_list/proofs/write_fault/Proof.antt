@@ -1,9 +1,11 @@
--- `write_fault`: the counts refuse, or else the pairs and the room decide.
+-- `write_fault`: the counts refuse, or else the needs, the pairs and the room decide.
 use lib.ListN.{length}
-use Rattle.timing.specs.Limits.{maxPairs}
+use Rattle.timing.specs.Limits.{maxRegisters, maxPairs}
 use Rattle.list_format.specs.Write.{givenCount, countChecks}
-use Prim.Native.Nat.{_≤_}
-use mathlib.Core.Path.{sym, _∙_}
+use Rattle.list_format.proofs.ListLaws.{same}
+use Rattle.list_format.proofs.WriteBack.{few-needs}
+use Prim.Native.Nat.{_*_, _≤_}
+use mathlib.Core.Path.{_≡_, sym, _∙_}
 use native.Mathlib.Omega.{arith}
 use borrow.Author.Tests.{ltb-false}
 use Rattle.refusals.proofs.CheckLaws.{stop-first, pass-first, passed}
@@ -13,10 +15,14 @@ use Rattle.write_list.proofs.write_fault.Tie as tie
 
 body-fault-requires : tie.Need-body-fault-requires
 body-fault-requires c κs =
-    let a = c .before .before .before .before .args in
-    let h = passed (countChecks (a .n) (length (a .numbers .now))) (sym (c .before .before .count-fault .ensures) ∙ c .enum-told .given .1) in
+    let s = c .before .before .before .before .before in
+    let a = s .args in
+    let h = passed (countChecks (a .n) (length (a .numbers .now)) (length (a .needs .now)))
+    (sym (c .before .before .count-fault .ensures) ∙ c .enum-told .given .1) in
+    let most : a .n ≤ maxRegisters = ltb-false _ _ (h .1 .1 .0) in
     let few : givenCount (a .numbers .now) ≤ maxPairs = ltb-false _ _ (h .1 .1 .1 .0) in
-    omega arith
+    let two : length (a .needs .now) ≡ 2 * a .n = same _ _ (h .1 .1 .1 .1 .0) in
+    (s .pre, (omega (arith, few-needs (a .n) (a .needs .now)), (omega arith, (omega arith, omega arith))))
 
 returns : tie.Need-returns
 returns c = sym (stop-first _ _ (sym (c .before .before .before .count-fault .ensures) ∙ c .before .number .given .1))

@@ -4,7 +4,7 @@ use denote.Struct.Laws as LL
 use denote.Triple.Table.{entered, cited}
 use Rattle.timing.proofs.Pair as S
 use Rattle.timing.proofs.Pair.Laws as S′
-use Rattle.list_format.specs.Lists.{PairIn, IsPair}
+use Rattle.list_format.specs.Lists.{PairIn, IsWritten}
 use Rattle.delay_list.proofs.Asked.{asked}
 use Rattle.delay_list.proofs.Called.{Promise}
 use Rattle.delay_list.proofs.pair_from as from
@@ -26,7 +26,7 @@ pair-spec 𝓤 H 𝓜 𝓖 𝓡 =
     (𝓣 .Λ) #pair code.function (code.unfolded 𝓤 H 𝓜 𝓡)
     (asked 𝓤 H A W S.the-row S′.mir (LL.val S.the-type S′.the-laws) (LL.tells S.the-type S′.the-laws)
     (λ r is. LL.lawful S.the-type S′.the-laws 𝓤 H A W .typed r _ is .0)
-    PairIn IsPair 𝓣 #from
+    PairIn IsWritten 𝓣 #from
     (cited 𝓤 H (Promise 𝓤 H A from.ended (from.clauses 𝓤 H A (𝓜 .mem)
     (𝓡 .run))) 𝓜 𝓡 code.env #from from-def.routine code.calls-delay-list·pair-from
     (from-thm.met 𝓤 H 𝓜 𝓖 𝓡)))

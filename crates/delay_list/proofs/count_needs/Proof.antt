@@ -1,0 +1,52 @@
+-- By the kind of the second word; the word of needs of a register stands in an accepted list, and its hold is at most the least delay.
+use Prim.Native.Nat.{_<_}
+use mathlib.Core.Path.{sym, _∙_}
+use native.Mathlib.Omega.{arith}
+use Rattle.list_format.specs.Lists.{needWords}
+use Rattle.list_format.proofs.ListLaws.{accepted-in}
+use Rattle.list_format.proofs.NeedsLaws.{needs-present, needs-absent, hold-at, counting-none, counting-at}
+use borrow.Author.Needs.{needs}
+use Rattle.delay_list.proofs.count_needs.Statement.{statement}
+use Rattle.delay_list.proofs.count_needs.Tie as tie
+
+shared-slice-read-kind : tie.Need-shared-slice-read-kind
+shared-slice-read-kind c =
+    let s = c .before .before in
+    omega (arith, accepted-in (s .args .words .now) (s .pre .0) .head .size)
+
+returns : tie.Need-returns
+returns c =
+    let s = c .before .before .before .before in
+    counting-none (s .args .words .now) (s .args .p) (needs-absent (s .args .words .now) (λ e. c .if1 .taken (c .before .kind .ensures ∙ e)))
+
+shared-slice-read-need : tie.Need-shared-slice-read-need
+shared-slice-read-need c =
+    let s = c .before .before .before .before .before .before in
+    let ws = s .args .words .now in
+    let all = needs-present ws (sym (c .before .before .before .kind .ensures) ∙ c .before .before .if1 .left) in
+    omega (arith, accepted-in ws (s .pre .0) .head .size, s .pre .1 .values .capture, all)
+
+sub-t4 : tie.Need-sub-t4
+sub-t4 c =
+    let s = c .before .before .before .before .before .before .before .before in
+    let ws = s .args .words .now in
+    let all = needs-present ws (sym (c .before .before .before .before .before .kind .ensures) ∙ c .before .before .before .before .if1 .left) in
+    let below : s .args .p .capture < needWords ws = omega (arith, s .pre .1 .values .capture, all) in
+    let same = hold-at ws below in
+    omega (arith, c .before .hold .ensures, same, s .pre .1 .holds)
+
+returns-2 : tie.Need-returns-2
+returns-2 c =
+    let s = c .before .before .before .before .before .before .before .before .before .before in
+    let ws = s .args .words .now in
+    let at = c .before .before .before .before .before .before in
+    let all = needs-present ws (sym (at .before .kind .ensures) ∙ at .if1 .left) in
+    rw (c .before .setup .ensures, c .before .before .before .hold .ensures)
+    (counting-at ws (s .args .p) (omega (arith, s .pre .1 .values .capture, all)))
+
+pub count-needs-spec : {M : Type 1} → statement M
+count-needs-spec =
+    tie.close
+    (tie.spec
+    shared-slice-read-kind (λ c κs. search needs) returns (λ c. search needs) (λ c. search needs) (λ c. search needs)
+    shared-slice-read-need (λ c κs. search needs) sub-t4 (λ c κs. search needs) (λ c. search needs) returns-2)
