@@ -15,7 +15,7 @@ use Rattle.words.proofs.BytesLaws.{words-size, bytes-back}
 use Rattle.refusals.specs.Checks.{Check, orCheck, faultAfter, eachCheck}
 use Rattle.refusals.specs.Reply.{Outcome, refused, answered}
 use Rattle.refusals.proofs.ReplyLaws.{first-refused}
-use Rattle.list_format.specs.Lists.{listChecks}
+use Rattle.list_format.specs.Lists.{needWordsBy, listChecks}
 use Rattle.list_bytes.specs.ListBytes.{maxWords, maxBytes, listOf, LoadedAs}
 
 module _ (bs : List ℕ) where
@@ -34,7 +34,7 @@ module _ (bs : List ℕ) where
 
   -- no words: every job refuses by 11 at 0
   pub none-refused : (cs : List Check) (o : Outcome) → listOf bs ≡ [] → answered (listChecks (listOf bs) ++ cs) o ≡ refused 11 0
-  unfolding orCheck faultAfter eachCheck
+  unfolding orCheck faultAfter eachCheck needWordsBy
   none-refused cs o e = first-refused (listChecks (listOf bs)) cs o (rw e)
 
   -- four bytes to a word

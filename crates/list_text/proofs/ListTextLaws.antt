@@ -29,7 +29,7 @@ use Rattle.list_format.specs.declared.Writing.the-variants.{Written, Refused as
 use Rattle.list_format.proofs.NeedsLaws.{needs-length}
 use Rattle.list_format.proofs.ListLaws.{numbers-in}
 use Rattle.list_format.proofs.ReadBack.{numbers-length}
-use Rattle.list_format.proofs.WriteBack.{given-in, words-length}
+use Rattle.list_format.proofs.WriteBack.{few-needs, given-in, words-length}
 use Rattle.text_pieces.specs.Pieces.{Put}
 use Rattle.text_pieces.specs.Saying.{SaidAs, text as sayText}
 use Rattle.text_pieces.specs.declared.Said.the-variants.{Text, Trouble}
@@ -46,7 +46,6 @@ use Rattle.list_text.specs.ListText.{listWidth, shownPlaces, textOf, lis
 use Rattle.list_text.specs.ListText.{refusedLine, madeRefused, madeDone, madeFrom, needsGiven, madeWith, madeOf, made, storedFor, returnedFor, MadeAs}
 use Rattle.list_text.specs.declared.Made.{Made}
 use Rattle.list_text.specs.declared.Made.the-variants.{Bytes, Fault}
-use Rattle.list_text.proofs.LineLaws.{lines-few}
 
 -- ---- showing
 
@@ -204,7 +203,7 @@ module _ {n : ℕ} {xs ys now : List ℕ} {r : Writing} (a : WrittenAs n xs ys (
     count-is = let e = rw written at given in cc
 
     pub written-few : count ≤ maxWords
-    written-few = rw count-is (omega (arith, within .few, within .most, lines-few n ys))
+    written-few = rw count-is (omega (arith, within .few, within .most, few-needs n ys))
 
     word-size : length (wordsOf n xs ys) ≡ count
     word-size = words-length n xs ys within ∙ sym count-is

@@ -11,7 +11,6 @@ ghost use Rattle.list_format.specs.Read.{readPlaces, reading};
 ghost use Rattle.list_bytes.specs.ListBytes.{maxBytes};
 ghost use Rattle.timing.specs.Limits.{maxRegisters, maxPairs};
 ghost use Rattle.scan.specs.Scan.{maxNumbers, textBytes};
-ghost use Rattle.list_format.specs.Lists.{noNeeds};
 ghost use Rattle.list_format.specs.Write.{givenNeeds};
 ghost use Rattle.list_text.specs.ListText.{twoWidth, pairWidth, listWidth, shownPlaces, twoLine, fourLine, needsLine, pairLine, textOf};
 ghost use Rattle.list_text.specs.ListText.{listNumbers, shownSaid, shownText, lastOf, refusedLine, madeFrom, madeWith, made, MadeAs};
@@ -100,20 +99,6 @@ fn put_pairs(text: &mut [u8], at: usize, numbers: &[u32], m: usize) -> usize
     last
 }
 
-// Whether all needs are 0.
-fn no_needs(needs: &[u32]) -> bool
-    ensures { λ r. ⌜ r ≡ noNeeds (now (needs .entry)) ⌝ }
-{
-    let mut i = 0;
-    while i < needs.len() {
-        if needs[i] != 0 {
-            return false;
-        }
-        i += 1;
-    }
-    true
-}
-
 // The lines of the needs of n registers; none if all needs are 0.
 fn put_block(text: &mut [u8], at: usize, n: u32, needs: &[u32]) -> usize
     requires { ⌜ (2 * n ≤ length (now needs)) × (at + twoWidth * n ≤ length (now text)) ⌝ }
@@ -121,7 +106,7 @@ fn put_block(text: &mut [u8], at: usize, n: u32, needs: &[u32]) -> usize
         Put (twoWidth * n) (run (needsLine (now (needs .entry))) (givenNeeds n (now (needs .entry)))) (now (text .entry)) at (now (text .exit)) r
         ⌝ }
 {
-    if no_needs(needs) {
+    if write_list::none_needed(needs) {
         return at;
     }
     put_needs(text, at, needs, n as usize)
