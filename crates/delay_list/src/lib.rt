@@ -6,10 +6,11 @@ ghost use mathlib.Core.List.{[], _∷_};
 ghost use Prim.Native.Nat.{_+_, _-_, _*_, _^_, _<_, _≤_};
 ghost use lib.Dec.{ltb};
 ghost use lib.ListN.{length};
-ghost use Rattle.words.specs.Word.{countBits, registerBits};
+ghost use Rattle.words.specs.Word.{countBits, registerBits, holdOf, setupOf};
+ghost use Rattle.timing.specs.Limits.{maxDelay};
 ghost use Rattle.refusals.specs.Checks.{firstFault, faultAfter};
 ghost use Rattle.list_format.specs.Lists.{word, registers, pairCount, needWordsBy, needWords, holdAt, setupAt, needsOf, placeBy, pairPlace, placeOf, pairOf};
-ghost use Rattle.list_format.specs.Lists.{countingNeeds, noNeeds, IsAccepted, PairIn, WrittenIn, IsWritten, IsPair, verdict as verdictOf};
+ghost use Rattle.list_format.specs.Lists.{counting, countingNeeds, noNeeds, IsAccepted, PairIn, WrittenIn, IsWritten, IsPair, verdict as verdictOf};
 ghost use Rattle.list_format.specs.Lists.{headChecks, needChecks, blockChecks, kindChecks, valueChecks, pairChecks, endChecks, pairsChecks, bodyChecks};
 ghost use Rattle.list_format.specs.Walk.{nextAt, placeAfter};
 use list_format::Next;
@@ -225,10 +226,9 @@ fn body_fault(words: &[u32], needs: usize, n: u32, m: usize) -> Fault
     requires { ⌜ (needs ≡ needWords (now words)) × ((m < 2 ^ countBits) × (length (now words) ≡ pairPlace (now words) m + 1)) ⌝ }
     ensures { λ r. ⌜ r ≡ firstFault (bodyChecks (now (words .entry)) n m) ⌝ }
 {
-    match block_fault(words, needs) {
-        Fault::At(number, place) => Fault::At(number, place),
-        Fault::None => pairs_fault(words, needs, n, m),
-    }
+    let block = block_fault(words, needs);
+    let rest = pairs_fault(words, needs, n, m);
+    block.then(rest)
 }
 
 // Word i, or 0 if there is none.
@@ -361,6 +361,27 @@ fn written_at(words: &[u32], k: usize) -> Pair
     Reader::new(words, k).pair()
 }
 
+// The word of needs of register r.
+fn need_at(words: &[u32], r: u32) -> u32
+    requires { ⌜ 1 + r < length (now words) ⌝ }
+    ensures { λ w. ⌜ w ≡ word (now (words .entry)) (1 + r) ⌝ }
+{
+    words[1 + r as usize]
+}
+
+// A pair with a word of needs counted in.
+fn with_needs(p: Pair, need: u32) -> Pair
+    requires { ⌜ (holdOf need ≤ p .least) × ((p .least ≤ p .greatest) × (p .greatest ≤ maxDelay)) ⌝ }
+    ensures { λ r. ⌜ r ≡ counting (holdOf need) (setupOf need) p ⌝ }
+{
+    Pair {
+        launch: p.launch,
+        capture: p.capture,
+        least: p.least - words::hold(need),
+        greatest: p.greatest + words::setup(need),
+    }
+}
+
 // A pair of an accepted list with the needs of its capture register counted in.
 fn count_needs(words: &[u32], p: Pair) -> Pair
     requires { ⌜ IsAccepted (now words) × WrittenIn (registers (now words)) (holdAt (now words) (p .capture)) p ⌝ }
@@ -369,13 +390,7 @@ fn count_needs(words: &[u32], p: Pair) -> Pair
     if words::kind(words[1]) != words::KIND_NEEDS {
         return p;
     }
-    let need = words[1 + p.capture as usize];
-    Pair {
-        launch: p.launch,
-        capture: p.capture,
-        least: p.least - words::hold(need),
-        greatest: p.greatest + words::setup(need),
-    }
+    with_needs(p, need_at(words, p.capture))
 }
 
 // Pair k of an accepted list, with the needs of its capture register counted in.

@@ -7,8 +7,8 @@ use Rattle.buffers.specs.Run.{run}
 use Rattle.words.specs.Word.{total}
 use Rattle.refusals.specs.Checks.{orCheck, faultAfter, eachCheck}
 use Rattle.refusals.specs.Reply.{unless}
-use Rattle.list_format.specs.Lists.{pairsFrom}
-use Rattle.list_format.specs.Write.{writing}
+use Rattle.list_format.specs.Lists.{needWordsBy, holdAt, setupAt, pairAt, pairsFrom, noNeeds}
+use Rattle.list_format.specs.Write.{givenNeeds, writing}
 use Rattle.free_laws.specs.Free.{relax, round, rounds, freeAt, freeWorks, common, freePeriod, freeSchedule}
 use Rattle.split_laws.specs.Split.{works, splits, firstOf, firstSplit, splitWorks}
 use Rattle.plan_laws.specs.Plan.{twoWorks, twoPeriod, twoOffset, twoSplit, twoTimings}
@@ -18,7 +18,7 @@ use Rattle.examples.specs.Examples.{computed, numbersOfPairs, listFor, c
 
 pub examples-shown : (map computed table ≡ table) × (map called table ≡ map answers table)
 unfolding computed numbersOfPairs listFor called tried answers table
-    admissible firstFrom least run total orCheck faultAfter eachCheck unless pairsFrom writing
+    admissible firstFrom least run total orCheck faultAfter eachCheck unless needWordsBy holdAt setupAt pairAt pairsFrom noNeeds givenNeeds writing
     relax round rounds freeAt freeWorks common freePeriod freeSchedule works splits firstOf firstSplit
     splitWorks twoWorks twoPeriod twoOffset twoSplit twoTimings splitOutcome splitting planning
 examples-shown = (refl, refl)

@@ -5,7 +5,7 @@ use mathlib.Core.List.{List, [], _∷_, _++_, append-assoc}
 use mathlib.Core.Path.{_≡_, refl, ap, sym, _∙_}
 use native.Mathlib.Nat.{sub-zero}
 use native.Mathlib.Omega.{arith}
-use Rattle.refusals.specs.Checks.{Check, orCheck, faultAfter, firstFault, eachCheck}
+use Rattle.refusals.specs.Checks.{Check, orCheck, faultAfter, firstFault, thenFault, eachCheck}
 use Rattle.refusals.specs.declared.Fault.{Fault}
 use Rattle.refusals.specs.declared.Fault.the-variants.{None, At}
 
@@ -26,6 +26,14 @@ stop-first xs ys {number} {place} e = fault-append None xs ys ∙ ap (λ f. faul
 
 pub pass-first : (xs ys : List Check) → firstFault xs ≡ None → firstFault (xs ++ ys) ≡ firstFault ys
 pass-first xs ys e = fault-append None xs ys ∙ ap (λ f. faultAfter f ys) e
+
+pub then-both : (xs ys : List Check) → thenFault (firstFault xs) (firstFault ys) ≡ firstFault (xs ++ ys)
+unfolding thenFault
+then-both xs ys = go (firstFault xs) refl
+  where
+    go : (f : Fault) → firstFault xs ≡ f → thenFault f (firstFault ys) ≡ firstFault (xs ++ ys)
+    go None e = sym (pass-first xs ys e)
+    go (At number place) e = sym (stop-first xs ys e)
 
 -- both pass
 none-first : (f : Fault) (ys : List Check) → faultAfter f ys ≡ None → f ≡ None

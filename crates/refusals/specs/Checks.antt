@@ -24,6 +24,11 @@ faultAfter f (c ∷ cs) = faultAfter (orCheck f c) cs
 abbrev pub firstFault : List Check → Fault
 firstFault = faultAfter None
 
+-- what one run of checks finds, or else another
+unfoldable pub thenFault : Fault → Fault → Fault
+thenFault (At number place) g = At number place
+thenFault None g = g
+
 -- the checks f i, f (i + 1), .. of so many things, one after the other
 unfoldable pub eachCheck : (ℕ → List Check) → ℕ → ℕ → List Check
 eachCheck f i zero = []

@@ -19,34 +19,34 @@ returns c =
     let s = c .before .before .before .before in
     counting-none (s .args .words .now) (s .args .p) (needs-absent (s .args .words .now) (λ e. c .if1 .taken (c .before .kind .ensures ∙ e)))
 
-shared-slice-read-need : tie.Need-shared-slice-read-need
-shared-slice-read-need c =
-    let s = c .before .before .before .before .before .before in
+need-at-requires : tie.Need-need-at-requires
+need-at-requires c κs =
+    let s = c .before .before .before .before in
     let ws = s .args .words .now in
-    let all = needs-present ws (sym (c .before .before .before .kind .ensures) ∙ c .before .before .if1 .left) in
-    omega (arith, accepted-in ws (s .pre .0) .head .size, s .pre .1 .values .capture, all)
+    let v = s .pre .1 .values in
+    let all = needs-present ws (sym (c .before .kind .ensures) ∙ c .if1 .left) in
+    omega (arith, accepted-in ws (s .pre .0) .head .size, v .launch, v .capture, all)
 
-sub-t4 : tie.Need-sub-t4
-sub-t4 c =
-    let s = c .before .before .before .before .before .before .before .before in
+with-needs-requires : tie.Need-with-needs-requires
+with-needs-requires c κs =
+    let s = c .before .before .before .before .before in
     let ws = s .args .words .now in
-    let all = needs-present ws (sym (c .before .before .before .before .before .kind .ensures) ∙ c .before .before .before .before .if1 .left) in
-    let below : s .args .p .capture < needWords ws = omega (arith, s .pre .1 .values .capture, all) in
+    let w = s .pre .1 in
+    let all = needs-present ws (sym (c .before .before .kind .ensures) ∙ c .before .if1 .left) in
+    let below : s .args .p .capture < needWords ws = omega (arith, w .values .capture, all) in
     let same = hold-at ws below in
-    omega (arith, c .before .hold .ensures, same, s .pre .1 .holds)
+    (rw (c .need-at .ensures) (omega (arith, same, w .holds)), (w .values .order, w .values .limit))
 
 returns-2 : tie.Need-returns-2
 returns-2 c =
-    let s = c .before .before .before .before .before .before .before .before .before .before in
+    let s = c .before .before .before .before .before .before in
     let ws = s .args .words .now in
-    let at = c .before .before .before .before .before .before in
-    let all = needs-present ws (sym (at .before .kind .ensures) ∙ at .if1 .left) in
-    rw (c .before .setup .ensures, c .before .before .before .hold .ensures)
-    (counting-at ws (s .args .p) (omega (arith, s .pre .1 .values .capture, all)))
+    let all = needs-present ws (sym (c .before .before .before .kind .ensures) ∙ c .before .before .if1 .left) in
+    let below : s .args .p .capture < needWords ws = omega (arith, s .pre .1 .values .capture, all) in
+    rw (c .with-needs .ensures, c .before .need-at .ensures) (counting-at ws (s .args .p) below)
 
 pub count-needs-spec : {M : Type 1} → statement M
 count-needs-spec =
     tie.close
     (tie.spec
-    shared-slice-read-kind (λ c κs. search needs) returns (λ c. search needs) (λ c. search needs) (λ c. search needs)
-    shared-slice-read-need (λ c κs. search needs) sub-t4 (λ c κs. search needs) (λ c. search needs) returns-2)
+    shared-slice-read-kind (λ c κs. search needs) returns need-at-requires with-needs-requires returns-2)
