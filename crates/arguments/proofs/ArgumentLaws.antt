@@ -17,7 +17,7 @@ module _ {text was xs : List ℕ} {r : Scanned} (a : ScanAs false text was xs r)
   unfolding argumentFrom
   argument-faulty e = rw (← a .answer, e)
 
-  module _ {count : ℕ} (e : r ≡ Numbers count) where
+  module _ {count needs : ℕ} (e : r ≡ Numbers count needs) where
     pub argument-one : count ≡ 1 → Number (getD xs 0 0) ≡ argumentOf text
     unfolding argumentFrom
     argument-one one = rw (← a .answer, e, one, stored-first a e)

@@ -12,7 +12,7 @@ use Rattle.arguments.specs.declared.Argument.the-variants.{Number, Wrong
 
 -- from the numbers of its text
 unfoldable pub argumentFrom : Scanned → List ℕ → Argument
-argumentFrom (Numbers count) xs = cond (eqb count 1) (Number (getD xs 0 0)) Wrong
+argumentFrom (Numbers count needs) xs = cond (eqb count 1) (Number (getD xs 0 0)) Wrong
 argumentFrom (Faulty fault line column byte) xs = Wrong
 
 abbrev pub argumentOf : List ℕ → Argument

@@ -18,7 +18,7 @@ pub fn number_of(text: &[u8]) -> Argument
     let mut numbers = [0u32; MAX_NUMBERS];
     match scan::scan(text, false, &mut numbers) {
         Scanned::Faulty(_, _, _, _) => Argument::Wrong,
-        Scanned::Numbers(count) => {
+        Scanned::Numbers(count, _) => {
             if count == 1 {
                 return Argument::Number(numbers[0]);
             }

@@ -120,7 +120,7 @@ module _ {ts was now : List ℕ} {r : Scanned} (a : ScanAs false ts was now r) w
       let here : checkText bs t ts ≡ sayTrouble (faultLine fault line column byte) = rw (← a .answer, e) in
       rw here (said-trouble put (omega arith))
 
-  module _ {count : ℕ} (e : r ≡ Numbers count) where
+  module _ {count needs : ℕ} (e : r ≡ Numbers count needs) where
     pub text-numbers : (bs : List ℕ) (t : ℕ) {said : Said} {text text′ : List ℕ}
         → SaidAs linePlaces (checkedLine (listOf bs) t (take count now)) text text′ said
         → SaidAs linePlaces (checkText bs t ts) text text′ said

@@ -68,7 +68,7 @@ checkedLine ws period xs = told (checkRefused ws period (length xs)) (foundSaid 
 -- `no-line-fault` in scan's proofs
 unfoldable pub scannedLine : List ℕ → ℕ → Scanned → List ℕ → Saying
 scannedLine ws period (Faulty fault line column byte) xs = trouble (faultLine fault line column byte)
-scannedLine ws period (Numbers count) xs = checkedLine ws period xs
+scannedLine ws period (Numbers count needs) xs = checkedLine ws period xs
 
 -- what is said for the bytes bs of a list, a period, and the text ts of a schedule
 abbrev pub checkText : List ℕ → ℕ → List ℕ → Saying

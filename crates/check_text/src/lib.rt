@@ -141,6 +141,6 @@ pub fn check_text(bytes: &[u8], period: u32, timings: &[u8], text: &mut [u8; TEX
             let size = refusal_text::put_fault(text, fault, line, column, byte);
             Said::Trouble(size)
         }
-        Scanned::Numbers(count) => put_against(text, bytes, period, &numbers[..count]),
+        Scanned::Numbers(count, _) => put_against(text, bytes, period, &numbers[..count]),
     }
 }

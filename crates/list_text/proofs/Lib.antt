@@ -1,3 +1,4 @@
 -- The laws, which other crates may cite too.
+pub mod LineLaws
 pub mod ListTextLaws
 pub mod RoundTrip

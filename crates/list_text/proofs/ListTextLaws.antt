@@ -1,70 +1,82 @@
 -- From what reading, writing and scanning promise to the text that is stored.
-use Prim.Native.Nat.{ℕ, suc, _+_, _-_, _*_, _≤_, _<_}
-use mathlib.Core.Bool.{Bool, true, false, _&&_}
-use mathlib.Core.List.{List, [], _∷_}
+use Prim.Native.Nat.{ℕ, zero, suc, _+_, _-_, _*_, _/_, _%_, _≤_, _<_}
+use mathlib.Core.Bool.{Bool, true, false, cond}
+use mathlib.Core.List.{List, [], _∷_, _++_, append-assoc}
 use mathlib.Core.Path.{_≡_, refl, sym, _∙_, ap}
 use native.Mathlib.Omega.{arith}
-use lib.Dec.{ltb, leb}
-use lib.ListN.{length, getD, take, drop}
-use lib.Seq.{take-at}
-use borrow.Author.Tests.{ltb-true}
-use Rattle.timing.specs.Limits.{maxPairs}
+use lib.Dec.{ltb, eqb}
+use lib.ListN.{length, getD, take, drop, length-append, length-drop}
+use lib.Seq.{length-take-le, take-at, drop-at, drop-drop}
+use borrow.Author.Tests.{lt-ltb, ne-eqb}
+use Rattle.timing.specs.Limits.{maxRegisters, maxPairs}
 use Rattle.buffers.specs.Over.{over, zeros}
 use Rattle.buffers.proofs.FillLaws.{filled-front, filled-fits}
 use Rattle.buffers.proofs.PadLaws.{zeros-size}
 use Rattle.words.specs.Bytes.{toBytes}
 use Rattle.words.proofs.BytesLaws.{bytes-size}
-use Rattle.refusals.specs.Checks.{firstFault}
-use Rattle.refusals.specs.Reply.{numbers, done, replyOf, bufferAfter, told}
-use Rattle.refusals.specs.declared.Fault.the-variants.{None}
-use Rattle.refusals.proofs.ReplyLaws.{answered-done, numbers-none, numbers-done, told-refusal}
-use Rattle.list_format.specs.Lists.{registers, pairCount, pairPlace}
-use Rattle.list_format.specs.Read.{numbersOf, readChecks, reading, readReply}
-use Rattle.list_format.specs.Write.{givenCount, wordsOf, writeChecks, writing, writeReply}
+use Rattle.refusals.specs.Checks.{firstFault, orCheck, faultAfter}
+use Rattle.refusals.specs.Reply.{numbers, done, refused, replyOf, bufferAfter, told}
+use Rattle.refusals.specs.declared.Fault.the-variants.{None, At}
+use Rattle.refusals.proofs.ReplyLaws.{answered-done, numbers-none, numbers-done, told-refusal, first-refused}
+use Rattle.list_format.specs.Lists.{registers, pairCount, needsOf, differ}
+use Rattle.list_format.specs.Read.{numbersOf, readPlaces, readChecks, reading, readReply}
+use Rattle.list_format.specs.Write.{givenCount, wordsOf, endPlace, countChecks, givenBody, writeChecks, GivenIn, writing, writeReply}
 use Rattle.list_format.specs.RoundTrip.{ReadAs, WrittenAs}
 use Rattle.list_format.specs.declared.Reading.{Reading}
 use Rattle.list_format.specs.declared.Reading.the-variants.{Read, Refused}
 use Rattle.list_format.specs.declared.Writing.{Writing}
 use Rattle.list_format.specs.declared.Writing.the-variants.{Written, Refused as NotWritten}
+use Rattle.list_format.proofs.NeedsLaws.{needs-length}
 use Rattle.list_format.proofs.ListLaws.{numbers-in}
 use Rattle.list_format.proofs.ReadBack.{numbers-length}
-use Rattle.list_format.proofs.WriteBack.{given-in, words-length}
+use Rattle.list_format.proofs.WriteBack.{few-needs, given-in, words-length}
 use Rattle.text_pieces.specs.Pieces.{Put}
 use Rattle.text_pieces.specs.Saying.{SaidAs, text as sayText}
 use Rattle.text_pieces.specs.declared.Said.the-variants.{Text, Trouble}
 use Rattle.text_pieces.proofs.PutLaws.{put-within}
 use Rattle.text_pieces.proofs.SaidLaws.{said-text, said-trouble}
-use Rattle.refusal_text.specs.RefusalText.{lineWidth, refusalLine, refusalLineIn, refusedSaying, faultLine}
+use Rattle.refusal_text.specs.RefusalText.{lineWidth, refusalLine, refusedSaying, faultLine}
 use Rattle.list_bytes.specs.ListBytes.{maxWords, maxBytes}
 use Rattle.scan.specs.declared.Scanned.{Scanned}
 use Rattle.scan.specs.declared.Scanned.the-variants.{Numbers, Faulty}
-use Rattle.scan.specs.Scan.{maxNumbers, lineOfPair, storedOf, Counted, ScanAs}
-use Rattle.scan.proofs.StoredLaws.{stored-some, stored-first}
-use Rattle.list_text.specs.ListText.{listWidth, shownPlaces, textOf, shownSaid, Product, listBytes, errorLine, madeRefused, madeDone}
-use Rattle.list_text.specs.ListText.{ofPair, refusedLine, madeFrom, madeOf, made, storedFor, returnedFor, MadeAs}
+use Rattle.scan.specs.Scan.{maxNumbers, ScanAs}
+use Rattle.scan.proofs.ScanLaws.{lent-is}
+use Rattle.scan.proofs.StoredLaws.{stored-front, stored-size}
+use Rattle.list_text.specs.ListText.{listWidth, shownPlaces, textOf, listNumbers, shownSaid, Product, listBytes, errorLine}
+use Rattle.list_text.specs.ListText.{refusedLine, madeRefused, madeDone, madeFrom, needsGiven, madeWith, madeOf, made, storedFor, returnedFor, MadeAs}
 use Rattle.list_text.specs.declared.Made.{Made}
 use Rattle.list_text.specs.declared.Made.the-variants.{Bytes, Fault}
 
 -- ---- showing
 
-module _ {ws now : List ℕ} {r : Reading} (a : ReadAs ws (zeros (4 * maxPairs)) now r) where
-  reply : readReply r ≡ replyOf (reading ws (4 * maxPairs))
-  reply = rw (zeros-size (4 * maxPairs)) at (a .reply)
+-- the numbers and the needs, as they are lent
+module _ (stored : List ℕ) (n m : ℕ) (h : readPlaces n m ≤ length stored) where
+  pub lent-numbers : 4 * m ≡ length (take (4 * m) stored)
+  lent-numbers = sym (length-take-le (4 * m) stored (omega arith))
+
+  pub lent-needs : length (take (4 * m + 2 * n - 4 * m) (drop (4 * m) stored)) ≡ 2 * n
+  lent-needs =
+      let size : 4 * m + 2 * n - 4 * m ≡ 2 * n = omega arith in
+      rw size (length-take-le (2 * n) (drop (4 * m) stored) (rw (length-drop (4 * m) stored) (omega arith)))
+
+module _ {ws now : List ℕ} {r : Reading} (a : ReadAs ws (zeros listNumbers) now r) where
+  reply : readReply r ≡ replyOf (reading ws listNumbers)
+  reply = rw (zeros-size listNumbers) at (a .reply)
 
   pub show-refused : {number place next : ℕ} {text text′ : List ℕ} → r ≡ Refused number place
       → Put lineWidth (refusalLine number place) text 0 text′ next
-      → SaidAs shownPlaces (told refusedSaying shownSaid (reading ws (4 * maxPairs))) text text′ (Trouble next)
+      → SaidAs shownPlaces (told refusedSaying shownSaid (reading ws listNumbers)) text text′ (Trouble next)
   unfolding readReply
-  show-refused e put = rw (told-refusal refusedSaying shownSaid (reading ws (4 * maxPairs)) (rw e at reply)) (said-trouble put (omega arith))
+  show-refused e put = rw (told-refusal refusedSaying shownSaid (reading ws listNumbers) (rw e at reply)) (said-trouble put (omega arith))
 
   module _ {n m : ℕ} (e : r ≡ Read n m) where
-    read-told : numbers (n ∷ m ∷ []) ≡ replyOf (reading ws (4 * maxPairs))
+    read-told : numbers (n ∷ m ∷ []) ≡ replyOf (reading ws listNumbers)
     unfolding readReply
     read-told = rw e at reply
 
-    is : reading ws (4 * maxPairs) ≡ done (registers ws ∷ pairCount ws ∷ []) (numbersOf ws)
+    is : reading ws listNumbers ≡ done (registers ws ∷ pairCount ws ∷ []) (numbersOf ws ++ needsOf ws)
     unfolding reading
-    is = numbers-done (readChecks ws (4 * maxPairs)) (done (registers ws ∷ pairCount ws ∷ []) (numbersOf ws)) read-told
+    is = numbers-done (readChecks ws listNumbers) (done (registers ws ∷ pairCount ws ∷ []) (numbersOf ws ++ needsOf ws)) read-told
 
     same : numbers (n ∷ m ∷ []) ≡ numbers (registers ws ∷ pairCount ws ∷ [])
     unfolding replyOf
@@ -80,28 +92,47 @@ module _ {ws now : List ℕ} {r : Reading} (a : ReadAs ws (zeros (4 * maxPairs))
     unfolding reading
     read-few = rw pairs-are (numbers-in ws _ _ read-told .head .few)
 
-    count-size : length (numbersOf ws) ≡ 4 * m
-    count-size = rw (numbers-length ws, pairs-are)
+    pub read-most : n ≤ maxRegisters
+    unfolding reading
+    read-most = rw registers-are (numbers-in ws _ _ read-told .head .most)
 
-    numbers-stored : now ≡ over (numbersOf ws) (zeros (4 * maxPairs))
-    unfolding bufferAfter
-    numbers-stored = rw (zeros-size (4 * maxPairs), is) at (a .stored)
+    numbers-size : length (numbersOf ws) ≡ 4 * m
+    numbers-size = rw (numbers-length ws, pairs-are)
+
+    needs-size : length (needsOf ws) ≡ 2 * n
+    needs-size = rw (needs-length ws, registers-are)
+
+    -- the numbers, the needs, and what is left of the buffer
+    left : List ℕ
+    left = drop (length (numbersOf ws ++ needsOf ws)) (zeros listNumbers)
+
+    all-stored : now ≡ (numbersOf ws ++ needsOf ws) ++ left
+    unfolding bufferAfter left
+    all-stored = rw (zeros-size listNumbers, is) at (a .stored)
+
+    stored-are : now ≡ numbersOf ws ++ (needsOf ws ++ left)
+    stored-are = rw append-assoc at all-stored
 
     numbers-are : take (4 * m) now ≡ numbersOf ws
-    numbers-are = filled-front (numbersOf ws) (zeros (4 * maxPairs)) count-size numbers-stored
+    numbers-are = rw stored-are (take-at (numbersOf ws) (needsOf ws ++ left) (4 * m) numbers-size)
 
-    -- the numbers can be lent
-    pub read-room : 4 * m ≤ length now
-    read-room = filled-fits (numbersOf ws) (zeros (4 * maxPairs)) count-size numbers-stored
+    needs-are : take (2 * n) (drop (4 * m) now) ≡ needsOf ws
+    needs-are =
+        rw (stored-are, drop-at (numbersOf ws) (needsOf ws ++ left) (4 * m) numbers-size) (take-at (needsOf ws) left (2 * n) needs-size)
 
-    pub read-size : 4 * m ≡ length (take (4 * m) now)
-    read-size = rw numbers-are (sym count-size)
+    pub read-room : readPlaces n m ≤ length now
+    read-room =
+        let L = left in
+        rw (stored-are, length-append, length-append) (omega (arith, numbers-size, needs-size))
 
-    pub show-read : {next : ℕ} {text text′ : List ℕ} → Put listWidth (textOf n (take (4 * m) now)) text 0 text′ next
-        → SaidAs shownPlaces (told refusedSaying shownSaid (reading ws (4 * maxPairs))) text text′ (Text next)
+    pub show-read : {next : ℕ} {text text′ : List ℕ} → Put listWidth (textOf n (take (4 * m) now) (take (2 * n) (drop (4 * m) now))) text 0 text′ next
+        → SaidAs shownPlaces (told refusedSaying shownSaid (reading ws listNumbers)) text text′ (Text next)
     unfolding told
     show-read put =
-        let here : told refusedSaying shownSaid (reading ws (4 * maxPairs)) ≡ sayText (textOf n (take (4 * m) now)) = rw (is, numbers-are, registers-are) in
+        let xs = take-at (numbersOf ws) (needsOf ws) (4 * pairCount ws) (numbers-length ws) in
+        let ys = drop-at (numbersOf ws) (needsOf ws) (4 * pairCount ws) (numbers-length ws) in
+        let here : told refusedSaying shownSaid (reading ws listNumbers) ≡ sayText (textOf n (take (4 * m) now) (take (2 * n) (drop (4 * m) now))) =
+        rw (is, xs, ys, numbers-are, needs-are, registers-are) in
         rw here (said-text put (omega arith))
 
 -- ---- making
@@ -141,96 +172,115 @@ made-put {p} {out} {out′} {r} {count} a e = rw (size p ∙ ap countOf (sym (a 
     size (listBytes bs) = refl
     size (errorLine bs) = refl
 
--- a refusal of a pair is of one that a list can have
-pub of-pair-few : (number place : ℕ) → ofPair number place ≡ true → place ≤ maxPairs
-unfolding ofPair
-of-pair-few number place = go (leb 14 number) (leb number 16) (ltb place maxPairs) refl
-  where
-    never : false ≡ true → ⊥
-    never h =
-        let z : _≡_ {A = ℕ} 0 1 = cc in
-        omega arith
-
-    go : (a b c : Bool) → ltb place maxPairs ≡ c → (a && (b && c)) ≡ true → place ≤ maxPairs
-    go true true true e h = omega (arith, ltb-true place maxPairs e)
-    go true true false e h = absurd (never h)
-    go true false c e h = absurd (never h)
-    go false b c e h = absurd (never h)
-
-module _ (bs : List ℕ) (number place : ℕ) {out out′ : List ℕ} {next : ℕ} where
-  pub refused-pair : {line : ℕ} → ofPair number place ≡ true → line ≡ lineOfPair place bs
-      → Put lineWidth (refusalLineIn number place line) out 0 out′ next → Put lineWidth (refusedLine bs number place) out 0 out′ next
-  unfolding refusedLine
-  refused-pair e l put = rw (e, ← l) put
-
-  pub refused-plain : ofPair number place ≡ false
-      → Put lineWidth (refusalLine number place) out 0 out′ next → Put lineWidth (refusedLine bs number place) out 0 out′ next
-  unfolding refusedLine
-  refused-plain e put = rw e put
-
-module _ {n : ℕ} {xs now : List ℕ} {r : Writing} (a : WrittenAs n xs (zeros maxWords) now r) where
-  answer : writeReply r ≡ replyOf (writing n xs maxWords)
+module _ {n : ℕ} {xs ys now : List ℕ} {r : Writing} (a : WrittenAs n xs ys (zeros maxWords) now r) where
+  answer : writeReply r ≡ replyOf (writing n xs ys maxWords)
   answer = rw (zeros-size maxWords) at (a .reply)
 
-  pub make-refused : (bs : List ℕ) {number place next : ℕ} {out out′ : List ℕ} → r ≡ NotWritten number place
-      → Put lineWidth (refusedLine bs number place) out 0 out′ next
-      → MadeAs (madeFrom bs n xs) out out′ (Fault next)
+  pub make-refused : (bs : List ℕ) (needs : ℕ) {number place next : ℕ} {out out′ : List ℕ} → r ≡ NotWritten number place
+      → Put lineWidth (refusedLine bs needs number place) out 0 out′ next
+      → MadeAs (madeFrom bs needs n xs ys) out out′ (Fault next)
   unfolding writeReply
-  make-refused bs e put = rw (told-refusal (madeRefused bs) madeDone (writing n xs maxWords) (rw e at answer)) (made-fault put)
+  make-refused bs needs e put = rw (told-refusal (madeRefused bs needs) madeDone (writing n xs ys maxWords) (rw e at answer)) (made-fault put)
 
   module _ {count : ℕ} (e : r ≡ Written count) where
-    given : numbers (count ∷ []) ≡ replyOf (writing n xs maxWords)
+    given : numbers (count ∷ []) ≡ replyOf (writing n xs ys maxWords)
     unfolding writeReply
     given = rw e at answer
 
-    pass : firstFault (writeChecks n xs maxWords) ≡ None
+    pass : firstFault (writeChecks n xs ys maxWords) ≡ None
     unfolding writing
-    pass = numbers-none (firstFault (writeChecks n xs maxWords)) (done ((pairPlace (givenCount xs) + 1) ∷ []) (wordsOf n xs)) given
+    pass = numbers-none (firstFault (writeChecks n xs ys maxWords)) (done ((endPlace n xs ys + 1) ∷ []) (wordsOf n xs ys)) given
 
-    written : writing n xs maxWords ≡ done ((pairPlace (givenCount xs) + 1) ∷ []) (wordsOf n xs)
+    within : GivenIn n xs ys
+    within = given-in n xs ys maxWords pass
+
+    written : writing n xs ys maxWords ≡ done ((endPlace n xs ys + 1) ∷ []) (wordsOf n xs ys)
     unfolding writing
-    written = answered-done (writeChecks n xs maxWords) (done ((pairPlace (givenCount xs) + 1) ∷ []) (wordsOf n xs)) pass
+    written = answered-done (writeChecks n xs ys maxWords) (done ((endPlace n xs ys + 1) ∷ []) (wordsOf n xs ys)) pass
 
-    count-is : count ≡ pairPlace (givenCount xs) + 1
+    count-is : count ≡ endPlace n xs ys + 1
     unfolding replyOf
     count-is = let e = rw written at given in cc
 
     pub written-few : count ≤ maxWords
-    written-few = rw count-is (omega (arith, given-in n xs maxWords pass .few))
+    written-few = rw count-is (omega (arith, within .few, within .most, few-needs n ys))
 
-    word-size : length (wordsOf n xs) ≡ count
-    word-size = words-length n xs (given-in n xs maxWords pass) ∙ sym count-is
+    word-size : length (wordsOf n xs ys) ≡ count
+    word-size = words-length n xs ys within ∙ sym count-is
 
-    words-stored : now ≡ over (wordsOf n xs) (zeros maxWords)
+    words-stored : now ≡ over (wordsOf n xs ys) (zeros maxWords)
     unfolding bufferAfter
     words-stored = rw (zeros-size maxWords, written) at (a .stored)
 
-    words-are : take count now ≡ wordsOf n xs
-    words-are = filled-front (wordsOf n xs) (zeros maxWords) word-size words-stored
+    words-are : take count now ≡ wordsOf n xs ys
+    words-are = filled-front (wordsOf n xs ys) (zeros maxWords) word-size words-stored
 
     -- the words can be lent
     pub written-room : count ≤ length now
-    written-room = filled-fits (wordsOf n xs) (zeros maxWords) word-size words-stored
+    written-room = filled-fits (wordsOf n xs ys) (zeros maxWords) word-size words-stored
 
     pub written-size : count ≡ length (take count now)
     written-size = rw words-are (sym word-size)
 
-    pub make-written : (bs : List ℕ) {next : ℕ} {out out′ : List ℕ} → Put (4 * length (take count now))
+    pub make-written : (bs : List ℕ) (needs : ℕ) {next : ℕ} {out out′ : List ℕ} → Put (4 * length (take count now))
         (toBytes (take count now) (length (take count now))) out 0 out′ next
-        → MadeAs (madeFrom bs n xs) out out′ (Bytes next)
+        → MadeAs (madeFrom bs needs n xs ys) out out′ (Bytes next)
     unfolding told
-    make-written bs put =
-        let here : madeFrom bs n xs ≡ listBytes (toBytes (take count now) (length (take count now))) = rw (written, words-are) in
+    make-written bs needs put =
+        let here : madeFrom bs needs n xs ys ≡ listBytes (toBytes (take count now) (length (take count now))) = rw (written, words-are) in
         rw here (made-bytes (put-within put (omega (arith, put .most, written-size, written-few))))
+
+-- ---- a text without needs
+
+zeros-front : (k j : ℕ) → k ≤ j → take k (zeros j) ≡ zeros k
+zeros-front zero j h = refl
+zeros-front (suc k) zero h = absurd (omega arith)
+zeros-front (suc k) (suc j) h = ap (λ zs. 0 ∷ zs) (zeros-front k j (omega arith))
+
+pub zeros-lent : (k j : ℕ) → k ≤ j → k ≡ length (take k (zeros j))
+zeros-lent k j h = rw (zeros-front k j h) (sym (zeros-size k))
+
+-- too many registers are refused before the needs are looked at
+many : (n : ℕ) (xs ys : List ℕ) → maxRegisters < n → writing n xs ys maxWords ≡ refused (cond (differ (length xs % 4) 0) 11 12) 0
+unfolding writing orCheck faultAfter
+many n xs ys h =
+    first-refused (countChecks n (length xs) (length ys)) (givenBody n xs ys (givenCount xs) maxWords)
+    (done ((endPlace n xs ys + 1) ∷ []) (wordsOf n xs ys))
+    (rw (ne-eqb n 0 (λ e. omega arith), lt-ltb maxRegisters n h) (go (differ (length xs % 4) 0)))
+  where
+    few : Bool
+    few = ltb maxPairs (length xs / 4)
+
+    go : (b : Bool) → firstFault ((b, 11, 0) ∷ (false, 12, 0) ∷ (true, 12, 0) ∷ (few, 12, 0) ∷ (differ (length ys) (2 * n), 11, 0) ∷ [])
+        ≡ At (cond b 11 12) 0
+    go true = refl
+    go false = refl
+
+module _ (bs : List ℕ) (n : ℕ) (xs : List ℕ) {out out′ : List ℕ} {r : Made} where
+  pub plain-many : (ys : List ℕ) → maxRegisters < n → MadeAs (madeFrom bs 0 n xs ys) out out′ r
+      → MadeAs (madeFrom bs 0 n xs (zeros (2 * n))) out out′ r
+  plain-many ys h made = rw (many n xs (zeros (2 * n)) h, ← many n xs ys h) made
+
+  pub plain-some : (j : ℕ) → 2 * n ≤ j → MadeAs (madeFrom bs 0 n xs (take (2 * n) (zeros j))) out out′ r
+      → MadeAs (madeFrom bs 0 n xs (zeros (2 * n))) out out′ r
+  plain-some j h made = rw (zeros-front (2 * n) j h) at made
 
 -- ---- the numbers of a text
 
--- those after the first
-rest-is : (xs was : List ℕ) → 0 < length xs → take (length xs - 1) (drop 1 (over xs was)) ≡ drop 1 xs
-rest-is [] was h = absurd (omega arith)
-rest-is (x ∷ xs) was h =
-    let e : suc (length xs) - 1 ≡ length xs = omega arith in
-    rw e (take-at xs (drop (suc (length xs)) was) (length xs) refl)
+module _ (bs : List ℕ) (needs : ℕ) (xs : List ℕ) {out out′ : List ℕ} {r : Made} where
+  pub with-none : needs ≡ 0 → MadeAs (madeFrom bs 0 (getD xs 0 0) (take (length xs - 1) (drop 1 xs)) (zeros (2 * getD xs 0 0))) out out′ r
+      → MadeAs (madeWith bs needs (getD xs 0 0) (drop 1 xs)) out out′ r
+  unfolding needsGiven
+  with-none none made = rw (none, ← lent-is xs 1) made
+
+  pub with-some : {from : ℕ} → (needs ≡ 0 → ⊥) → from ≡ 1 + needs
+      → MadeAs (madeFrom bs needs (getD xs 0 0) (take (length xs - from) (drop from xs)) (take (from - 1) (drop 1 xs))) out out′ r
+      → MadeAs (madeWith bs needs (getD xs 0 0) (drop 1 xs)) out out′ r
+  unfolding needsGiven
+  with-some {from} some f made =
+      let back : take (length xs - from) (drop from xs) ≡ drop needs (drop 1 xs) = lent-is xs from ∙ rw f (sym (drop-drop needs 1 xs)) in
+      let size : from - 1 ≡ needs = omega arith in
+      rw (ne-eqb needs 0 some) (rw (back, size) at made)
 
 module _ {text xs : List ℕ} {r : Scanned} (a : ScanAs true text (zeros maxNumbers) xs r) where
   pub make-faulty : {fault line column byte next : ℕ} {out out′ : List ℕ} → r ≡ Faulty fault line column byte
@@ -240,18 +290,19 @@ module _ {text xs : List ℕ} {r : Scanned} (a : ScanAs true text (zeros maxNumb
       let here : made text ≡ errorLine (faultLine fault line column byte) = rw (← a .answer, e) in
       rw here (made-fault put)
 
-  module _ {count : ℕ} (e : r ≡ Numbers count) where
-    counted : Counted (storedOf true text) count
-    counted = a .counted count e
+  module _ {count needs : ℕ} (e : r ≡ Numbers count needs) where
+    pub numbers-some : needs < length (take count xs)
+    numbers-some = rw (stored-front a e) (omega (arith, stored-size a e, a .counted count needs e .some))
 
-    pub numbers-some : 1 ≤ count
-    numbers-some = counted .some
+    pub numbers-most : needs ≤ maxNumbers
+    numbers-most =
+        let counted = a .counted count needs e in
+        omega (arith, counted .some, counted .most)
 
-    pub make-numbers : {r : Made} {out out′ : List ℕ} → MadeAs (madeFrom text (getD xs 0 0) (take (count - 1) (drop 1 xs))) out out′ r
-        → MadeAs (made text) out out′ r
+    pub make-numbers : {answer : Made} {out out′ : List ℕ}
+        → MadeAs (madeWith text needs (getD (take count xs) 0 0) (drop 1 (take count xs))) out out′ answer
+        → MadeAs (made text) out out′ answer
     unfolding madeOf
     make-numbers m =
-        let rest : take (count - 1) (drop 1 xs) ≡ drop 1 (storedOf true text) =
-        rw (a .stored, counted .size) (rest-is (storedOf true text) (zeros maxNumbers) (stored-some a e)) in
-        let here : made text ≡ madeFrom text (getD xs 0 0) (take (count - 1) (drop 1 xs)) = rw (← a .answer, e, stored-first a e, rest) in
+        let here : made text ≡ madeWith text needs (getD (take count xs) 0 0) (drop 1 (take count xs)) = rw (← a .answer, e, stored-front a e) in
         rw here m

@@ -1,7 +1,7 @@
 // The program `plan` on what it refuses and on faults of input and output: a list whose second pair names register 2 of 2, a text in
 // place of a list, a list of 32 pairs, which begins with a space and names register 2 of 2, a list of the largest size with four bytes
 // more, a directory, input that is not open, output that cannot be written.
-// Then a list of the largest size, with what the plain planner of the benchmark prints for it.
+// Then a list of the largest size, with needs, and what the plain planner of the benchmark prints for it.
 use libc::STDOUT_FILENO;
 use print_plan::print_plan;
 

@@ -45,18 +45,20 @@ wordsFor ((k, words) ∷ rows) others number = cond (eqb number k) (letters word
 -- what a refusal means; 31 to 34: the causes of 3
 abbrev pub meanings : List (ℕ × String)
 meanings =
-    (11, " the count of words or numbers is wrong\n")
+    (11, " the count of words, of numbers or of needs is wrong\n")
     ∷ (12, " the count of registers or of pairs is out of range\n")
-    ∷ (13, " a word of the wrong kind: the list is damaged\n")
+    ∷ (13, " a word of the wrong kind, or a need above 9999 picoseconds\n")
     ∷ (14, " a register is not below the count of registers\n")
     ∷ (15, " a delay is above 1000000 picoseconds\n")
     ∷ (16, " a least delay is above its greatest\n")
     ∷ (17, " the sum at the end is wrong: the list is damaged\n")
+    ∷ (18, " all needs are zero: such a list has no words for them\n")
+    ∷ (19, " a least delay is below the hold of its capture register\n")
     ∷ (3, " period, offset or timing out of range, or not one timing for each register\n")
-    ∷ (31, " the period is not from 1 to 1000000\n")
-    ∷ (32, " the offset is above 1000000\n")
+    ∷ (31, " the period is not from 1 to 1009999\n")
+    ∷ (32, " the offset is above 1009999\n")
     ∷ (33, " not one timing for each register\n")
-    ∷ (34, " a timing is above 511000000\n")
+    ∷ (34, " a timing is above 516109489\n")
     ∷ []
 
 unfoldable pub meaning : ℕ → List ℕ
@@ -68,8 +70,8 @@ troubles =
     (1, " only digits, spaces, commas and comments may stand here\n")
     ∷ (2, " a number is above 4294967295\n")
     ∷ (3, " the first line holds the count of registers, or that and the count of pairs\n")
-    ∷ (4, " a pair takes four numbers: launch capture least greatest\n")
-    ∷ (5, " too many numbers: a text has at most 8193, enough for 2048 pairs\n")
+    ∷ (4, " a line holds two needs, before all pairs, or the four numbers of a pair\n")
+    ∷ (5, " too many numbers: a text has at most 9217, for 512 registers and 2048 pairs\n")
     ∷ (6, " the text holds no number\n")
     ∷ (8, " the first line says another number of pairs\n")
     ∷ []

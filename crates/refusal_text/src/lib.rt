@@ -27,7 +27,11 @@ fn put_meaning(text: &mut [u8], at: usize, number: u32) -> usize
     ensures { λ r. ⌜ Put wordsWidth (meaning number) (now (text .entry)) at (now (text .exit)) r ⌝ }
 {
     match number {
-        11 => put_bytes(text, at, b" the count of words or numbers is wrong\n"),
+        11 => put_bytes(
+            text,
+            at,
+            b" the count of words, of numbers or of needs is wrong\n",
+        ),
         12 => put_bytes(
             text,
             at,
@@ -36,7 +40,7 @@ fn put_meaning(text: &mut [u8], at: usize, number: u32) -> usize
         13 => put_bytes(
             text,
             at,
-            b" a word of the wrong kind: the list is damaged\n",
+            b" a word of the wrong kind, or a need above 9999 picoseconds\n",
         ),
         14 => put_bytes(
             text,
@@ -50,15 +54,25 @@ fn put_meaning(text: &mut [u8], at: usize, number: u32) -> usize
             at,
             b" the sum at the end is wrong: the list is damaged\n",
         ),
+        18 => put_bytes(
+            text,
+            at,
+            b" all needs are zero: such a list has no words for them\n",
+        ),
+        19 => put_bytes(
+            text,
+            at,
+            b" a least delay is below the hold of its capture register\n",
+        ),
         3 => put_bytes(
             text,
             at,
             b" period, offset or timing out of range, or not one timing for each register\n",
         ),
-        31 => put_bytes(text, at, b" the period is not from 1 to 1000000\n"),
-        32 => put_bytes(text, at, b" the offset is above 1000000\n"),
+        31 => put_bytes(text, at, b" the period is not from 1 to 1009999\n"),
+        32 => put_bytes(text, at, b" the offset is above 1009999\n"),
         33 => put_bytes(text, at, b" not one timing for each register\n"),
-        34 => put_bytes(text, at, b" a timing is above 511000000\n"),
+        34 => put_bytes(text, at, b" a timing is above 516109489\n"),
         _ => put_bytes(text, at, b" a buffer is too short\n"),
     }
 }
@@ -82,12 +96,12 @@ fn put_trouble(text: &mut [u8], at: usize, fault: u32) -> usize
         4 => put_bytes(
             text,
             at,
-            b" a pair takes four numbers: launch capture least greatest\n",
+            b" a line holds two needs, before all pairs, or the four numbers of a pair\n",
         ),
         5 => put_bytes(
             text,
             at,
-            b" too many numbers: a text has at most 8193, enough for 2048 pairs\n",
+            b" too many numbers: a text has at most 9217, for 512 registers and 2048 pairs\n",
         ),
         6 => put_bytes(text, at, b" the text holds no number\n"),
         8 => put_bytes(text, at, b" the first line says another number of pairs\n"),

@@ -1,43 +1,85 @@
 -- The definitions of one byte's reading, case by case.
 use Prim.Native.Nat.{ℕ, _+_, _-_, _*_, _≤_, _<_}
-use mathlib.Core.Bool.{Bool, true, false, not, cond}
+use mathlib.Core.Bool.{Bool, true, false, not, cond, _&&_}
 use mathlib.Core.List.{List}
-use mathlib.Core.Path.{_≡_}
+use mathlib.Core.Path.{_≡_, refl}
+use lib.Dec.{eqb}
 use lib.ListN.{set}
 use borrow.Author.Tests.{not-true, not-false, lt-ltb, le-ltb, eq-eqb, ne-eqb}
 use Rattle.text_pieces.specs.Pieces.{zeroByte, nineByte, newline}
 use Rattle.scan.specs.declared.State.{State}
 use Rattle.scan.specs.Scan.{maxNumbers, maxValue, isBlank, commentByte, failed, valued, withDigit, isSecond, outside, numberEnded, lineFault}
-use Rattle.scan.specs.Scan.{nextLine, lineEnded, commented, stepInLine, step, endFault, atEnd, finished, keptIn}
+use Rattle.scan.specs.Scan.{needLine, needsThen, nextLine, lineEnded, commented, stepInLine, step, endFault, atEnd, finished, keptIn}
 
 -- ---- the end of a line of a list
 
-module _ (first count : ℕ) where
-  pub not-lined : (lined : Bool) → not lined ≡ true → 0 ≡ lineFault lined first count
-  unfolding lineFault
-  not-lined lined e = rw (not-true lined e)
+module _ (lined : Bool) (first needs count : ℕ) where
+  -- ---- needs
 
-  module _ (lined : Bool) (e : not lined ≡ false) where
-    pub blank-line : count ≡ first → 0 ≡ lineFault lined first count
+  pub needs-unlined : not lined ≡ true → false ≡ needLine lined first needs count
+  unfolding needLine
+  needs-unlined e = rw (not-true lined e)
+
+  module _ (e : not lined ≡ false) where
+    pub needs-later : (first ≡ needs + 1 → ⊥) → false ≡ needLine lined first needs count
+    unfolding needLine
+    needs-later h = rw (not-false lined e, ne-eqb first (needs + 1) h)
+
+    pub needs-early : first ≡ needs + 1 → eqb count (first + 2) ≡ needLine lined first needs count
+    unfolding needLine
+    needs-early h = rw (not-false lined e, eq-eqb first (needs + 1) h)
+
+  -- by the count of its numbers alone a line can be seen not to hold needs
+  pub needs-other : (count ≡ first + 2 → ⊥) → needLine lined first needs count ≡ false
+  unfolding needLine
+  needs-other h = rw (ne-eqb count (first + 2) h) (go lined (eqb first (needs + 1)))
+    where
+      go : (a b : Bool) → a && (b && false) ≡ false
+      go true true = refl
+      go true false = refl
+      go false b = refl
+
+  pub needs-more : needLine lined first needs count ≡ true → needs + 2 ≡ needsThen lined first needs count
+  unfolding needsThen
+  needs-more h = rw h
+
+  pub needs-same : needLine lined first needs count ≡ false → needs ≡ needsThen lined first needs count
+  unfolding needsThen
+  needs-same h = rw h
+
+  -- ---- what is wrong
+
+  pub not-lined : not lined ≡ true → 0 ≡ lineFault lined first needs count
+  unfolding lineFault
+  not-lined e = rw (not-true lined e)
+
+  module _ (e : not lined ≡ false) where
+    pub blank-line : count ≡ first → 0 ≡ lineFault lined first needs count
     unfolding lineFault
     blank-line h = rw (not-false lined e, eq-eqb count first h)
 
     module _ (some : count ≡ first → ⊥) where
-      pub first-line : first ≡ 0 → count ≡ 1 → 0 ≡ lineFault lined first count
+      pub first-line : first ≡ 0 → count ≡ 1 → 0 ≡ lineFault lined first needs count
       unfolding lineFault
       first-line z h = rw (not-false lined e, ne-eqb count first some, eq-eqb first 0 z, eq-eqb count 1 h)
 
-      pub bad-first : first ≡ 0 → (count ≡ 1 → ⊥) → 3 ≡ lineFault lined first count
+      pub bad-first : first ≡ 0 → (count ≡ 1 → ⊥) → 3 ≡ lineFault lined first needs count
       unfolding lineFault
       bad-first z h = rw (not-false lined e, ne-eqb count first some, eq-eqb first 0 z, ne-eqb count 1 h)
 
-      pub pair-line : (first ≡ 0 → ⊥) → count ≡ first + 4 → 0 ≡ lineFault lined first count
-      unfolding lineFault
-      pair-line z h = rw (not-false lined e, ne-eqb count first some, ne-eqb first 0 z, eq-eqb count (first + 4) h)
+      module _ (later : first ≡ 0 → ⊥) where
+        pub pair-line : count ≡ first + 4 → 0 ≡ lineFault lined first needs count
+        unfolding lineFault
+        pair-line h = rw (not-false lined e, ne-eqb count first some, ne-eqb first 0 later, eq-eqb count (first + 4) h)
 
-      pub bad-pair : (first ≡ 0 → ⊥) → (count ≡ first + 4 → ⊥) → 4 ≡ lineFault lined first count
-      unfolding lineFault
-      bad-pair z h = rw (not-false lined e, ne-eqb count first some, ne-eqb first 0 z, ne-eqb count (first + 4) h)
+        module _ (other : count ≡ first + 4 → ⊥) where
+          pub need-line : needLine lined first needs count ≡ true → 0 ≡ lineFault lined first needs count
+          unfolding lineFault
+          need-line h = rw (h, not-false lined e, ne-eqb count first some, ne-eqb first 0 later, ne-eqb count (first + 4) other)
+
+          pub bad-line : needLine lined first needs count ≡ false → 4 ≡ lineFault lined first needs count
+          unfolding lineFault
+          bad-line h = rw (h, not-false lined e, ne-eqb count first some, ne-eqb first 0 later, ne-eqb count (first + 4) other)
 
 module _ (s : State) where
   -- ---- a number
@@ -74,7 +116,7 @@ module _ (s : State) where
   unfolding lineEnded
   line-stays h = rw (ne-eqb (s .fault) 0 h)
 
-  module _ {wrong : ℕ} (ok : s .fault ≡ 0) (e : wrong ≡ lineFault (s .lined) (s .first) (s .count)) where
+  module _ {wrong : ℕ} (ok : s .fault ≡ 0) (e : wrong ≡ lineFault (s .lined) (s .first) (s .needs) (s .count)) where
     pub line-fails : (wrong ≡ 0 → ⊥) → failed s wrong ≡ lineEnded s
     unfolding lineEnded
     line-fails h = rw (eq-eqb (s .fault) 0 ok, ← e, ne-eqb wrong 0 h)
@@ -134,30 +176,25 @@ module _ (s : State) where
   unfolding endFault
   end-none h = rw (eq-eqb (s .count) 0 h)
 
-  module _ {wrong : ℕ} (some : s .count ≡ 0 → ⊥) (e : wrong ≡ lineFault (s .lined) (s .first) (s .count)) where
-    pub end-wrong : (wrong ≡ 0 → ⊥) → wrong ≡ endFault s
+  module _ (some : s .count ≡ 0 → ⊥) where
+    pub end-silent : s .promised ≡ 0 → 0 ≡ endFault s
     unfolding endFault
-    end-wrong h = rw (ne-eqb (s .count) 0 some, ← e, ne-eqb wrong 0 h)
+    end-silent h = rw (ne-eqb (s .count) 0 some, eq-eqb (s .promised) 0 h)
 
-    module _ (ok : wrong ≡ 0) where
-      pub end-silent : s .promised ≡ 0 → 0 ≡ endFault s
+    module _ (told : s .promised ≡ 0 → ⊥) where
+      pub end-kept : s .count - s .needs ≡ s .promised → 0 ≡ endFault s
       unfolding endFault
-      end-silent h = rw (ne-eqb (s .count) 0 some, ← e, eq-eqb wrong 0 ok, eq-eqb (s .promised) 0 h)
+      end-kept h = rw (ne-eqb (s .count) 0 some, ne-eqb (s .promised) 0 told, eq-eqb (s .count - s .needs) (s .promised) h)
 
-      module _ (told : s .promised ≡ 0 → ⊥) where
-        pub end-kept : s .count ≡ s .promised → 0 ≡ endFault s
-        unfolding endFault
-        end-kept h = rw (ne-eqb (s .count) 0 some, ← e, eq-eqb wrong 0 ok, ne-eqb (s .promised) 0 told, eq-eqb (s .count) (s .promised) h)
-
-        pub end-broken : (s .count ≡ s .promised → ⊥) → 8 ≡ endFault s
-        unfolding endFault
-        end-broken h = rw (ne-eqb (s .count) 0 some, ← e, eq-eqb wrong 0 ok, ne-eqb (s .promised) 0 told, ne-eqb (s .count) (s .promised) h)
+      pub end-broken : (s .count - s .needs ≡ s .promised → ⊥) → 8 ≡ endFault s
+      unfolding endFault
+      end-broken h = rw (ne-eqb (s .count) 0 some, ne-eqb (s .promised) 0 told, ne-eqb (s .count - s .needs) (s .promised) h)
 
   pub finish-stays : (s .fault ≡ 0 → ⊥) → s ≡ finished s
   unfolding finished
   finish-stays h = rw (ne-eqb (s .fault) 0 h)
 
-  module _ {last : State} (ok : s .fault ≡ 0) (e : last ≡ numberEnded s) where
+  module _ {last : State} (ok : s .fault ≡ 0) (e : last ≡ lineEnded (numberEnded s)) where
     pub finish-faulty : (last .fault ≡ 0 → ⊥) → last ≡ finished s
     unfolding finished atEnd
     finish-faulty h = rw (eq-eqb (s .fault) 0 ok, ← e, ne-eqb (last .fault) 0 h)

@@ -79,7 +79,7 @@ pub record Going (enough : ℕ) (lined : Bool) (ts : List ℕ) (s : State) (i : 
 module _ {enough : ℕ} {lined : Bool} {ts : List ℕ} where
   pub going-start : {s : State} → s ≡ start lined → Going enough lined ts s 0
   going-start e =
-      record { bound = omega arith; within = rw e (record { first = omega arith; count = omega arith }); whole = rw e (omega arith) }
+      record { bound = omega arith; within = rw e (record { needs = omega arith; first = omega arith; count = omega arith }); whole = rw e (omega arith) }
 
   module _ {s : State} {i : ℕ} (w : Going enough lined ts s i) where
     module _ {t : State} (l : i < length ts) (e : t ≡ step s (getD ts i 0)) where

@@ -9,7 +9,8 @@ use borrow.Author.Tests.{ltb-true, ltb-false, lt-ltb, le-ltb, ne-eqb}
 use Rattle.text_pieces.specs.Pieces.{zeroByte, digit, decimal, number, space, newline}
 use Rattle.text_pieces.proofs.DecimalLaws.{decimal-one, decimal-more}
 use Rattle.scan.specs.declared.State.{State}
-use Rattle.scan.specs.Scan.{maxNumbers, maxValue, isBlank, withDigit, isSecond, numberEnded, lineFault, lineEnded, step, kept, after, ended}
+use Rattle.scan.specs.Scan.{maxNumbers, maxValue, isBlank, withDigit, isSecond, numberEnded, lineFault, lineEnded, step}
+use Rattle.scan.specs.Scan.{needLine, needsThen, kept, after, ended}
 use Rattle.scan.proofs.CaseLaws.{digit-more, ended-second, ended-next, line-next, in-blank, in-digit, step-newline, step-line}
 use Rattle.scan.proofs.ScanLaws.{after-append, ended-append}
 
@@ -35,11 +36,12 @@ unfolding after ended
 reads-one {s} {t} {byte} {xs} e k = record { state = e; numbers = rw (e, append-nil) k }
 
 -- in a number with the value v so far, or not
-abbrev on : Bool → ℕ → ℕ → ℕ → Bool → ℕ → State
-on lined first count promised inside v =
+abbrev on : Bool → ℕ → ℕ → ℕ → ℕ → Bool → ℕ → State
+on lined first needs count promised inside v =
     record {
       lined = lined;
       first = first;
+      needs = needs;
       count = count;
       promised = promised;
       inside = inside;
@@ -49,12 +51,12 @@ on lined first count promised inside v =
     }
 
 -- between two numbers
-abbrev pub at : Bool → ℕ → ℕ → ℕ → State
-at lined first count promised = on lined first count promised false 0
+abbrev pub at : Bool → ℕ → ℕ → ℕ → ℕ → State
+at lined first needs count promised = on lined first needs count promised false 0
 
 -- in a number
-abbrev pub within : Bool → ℕ → ℕ → ℕ → ℕ → State
-within lined first count promised v = on lined first count promised true v
+abbrev pub within : Bool → ℕ → ℕ → ℕ → ℕ → ℕ → State
+within lined first needs count promised v = on lined first needs count promised true v
 
 kept-same : (s t : State) → s .count ≡ t .count → kept s t ≡ []
 unfolding kept
@@ -74,27 +76,28 @@ digit-blank d = rw (
   ne-eqb (digit d) 13 (λ z. omega arith),
 )
 
-module _ (lined : Bool) (first count promised : ℕ) where
+module _ (lined : Bool) (first needs count promised : ℕ) where
   -- a digit, as the first one or as a later one
   one-digit : (inside : Bool) (v d w : ℕ) → d < 10 → 10 * v + d ≡ w → w ≤ maxValue
-      → Reads (on lined first count promised inside v) (digit d ∷ []) [] (within lined first count promised w)
+      → Reads (on lined first needs count promised inside v) (digit d ∷ []) [] (within lined first needs count promised w)
   one-digit inside v d w h e l =
-      let s : State = on lined first count promised inside v in
+      let s : State = on lined first needs count promised inside v in
       let small : zeroByte + d - zeroByte ≡ d = omega arith in
       let read = in-digit s (digit d) (digit-blank d) (λ z. omega arith) (omega arith) (omega arith) in
       let goes : withDigit s d ≡ step s (digit d) = rw small at read ∙ step-line s (digit d) refl (λ z. omega arith) refl in
-      let there : within lined first count promised w ≡ withDigit s d = rw e at (digit-more s d (omega arith)) in
-      reads-one (sym (there ∙ goes)) (kept-same s (within lined first count promised w) refl)
+      let there : within lined first needs count promised w ≡ withDigit s d = rw e at (digit-more s d (omega arith)) in
+      reads-one (sym (there ∙ goes)) (kept-same s (within lined first needs count promised w) refl)
 
   -- a number in decimal
-  digits-in : (k n : ℕ) → n < k → n ≤ maxValue → Reads (at lined first count promised) (decimal n) [] (within lined first count promised n)
+  digits-in : (k n : ℕ) → n < k → n ≤ maxValue
+      → Reads (at lined first needs count promised) (decimal n) [] (within lined first needs count promised n)
   digits-in zero n h l = absurd (omega arith)
   digits-in (suc k) n h l = go (ltb n 10) refl (digits-in k (n / 10))
     where
       go : (b : Bool) → ltb n 10 ≡ b
           → (n / 10 < k → n / 10 ≤ maxValue
-          → Reads (at lined first count promised) (decimal (n / 10)) [] (within lined first count promised (n / 10)))
-          → Reads (at lined first count promised) (decimal n) [] (within lined first count promised n)
+          → Reads (at lined first needs count promised) (decimal (n / 10)) [] (within lined first needs count promised (n / 10)))
+          → Reads (at lined first needs count promised) (decimal n) [] (within lined first needs count promised n)
       go true e front =
           let one = ltb-true n 10 e in
           rw (decimal-one n one) (one-digit false 0 n n one (omega arith) l)
@@ -103,47 +106,47 @@ module _ (lined : Bool) (first count promised : ℕ) where
           rw (decimal-more n more)
           (reads-then (front (omega arith) (omega arith)) (one-digit true (n / 10) (n % 10) n (omega arith) (omega arith) l))
 
-  pub digits : (n : ℕ) → n ≤ maxValue → Reads (at lined first count promised) (decimal n) [] (within lined first count promised n)
+  pub digits : (n : ℕ) → n ≤ maxValue → Reads (at lined first needs count promised) (decimal n) [] (within lined first needs count promised n)
   digits n l = digits-in (suc n) n (omega arith) l
 
   -- a number and the byte after it, which leads to a state t
-  then-byte : (n byte : ℕ) {t : State} {xs : List ℕ} → n ≤ maxValue → step (within lined first count promised n) byte ≡ t
-      → kept (within lined first count promised n) t ≡ xs → Reads (at lined first count promised) (number n byte) xs t
+  then-byte : (n byte : ℕ) {t : State} {xs : List ℕ} → n ≤ maxValue → step (within lined first needs count promised n) byte ≡ t
+      → kept (within lined first needs count promised n) t ≡ xs → Reads (at lined first needs count promised) (number n byte) xs t
   then-byte n byte l e k = reads-then (digits n l) (reads-one e k)
 
   module _ (n : ℕ) (l : n ≤ maxValue) where
-    module _ (other : isSecond (within lined first count promised n) ≡ false) (room : count < maxNumbers) where
-      ends : at lined first (count + 1) promised ≡ numberEnded (within lined first count promised n)
-      ends = ended-next (within lined first count promised n) refl other room
+    module _ (other : isSecond (within lined first needs count promised n) ≡ false) (room : count < maxNumbers) where
+      ends : at lined first needs (count + 1) promised ≡ numberEnded (within lined first needs count promised n)
+      ends = ended-next (within lined first needs count promised n) refl other room
 
       -- a number and a space
-      pub reads-space : Reads (at lined first count promised) (number n space) (n ∷ []) (at lined first (count + 1) promised)
+      pub reads-space : Reads (at lined first needs count promised) (number n space) (n ∷ []) (at lined first needs (count + 1) promised)
       unfolding isBlank
       reads-space =
-          let s = within lined first count promised n in
-          let t = at lined first (count + 1) promised in
+          let s = within lined first needs count promised n in
+          let t = at lined first needs (count + 1) promised in
           then-byte n space l (sym (ends ∙ in-blank s space refl ∙ step-line s space refl (λ z. omega arith) refl)) (kept-next s t (omega arith))
 
       -- a number and the end of a line
-      pub reads-newline : 0 ≡ lineFault lined first (count + 1)
-          → Reads (at lined first count promised) (number n newline) (n ∷ []) (at lined (count + 1) (count + 1) promised)
-      reads-newline fit =
-          let s = within lined first count promised n in
-          let t = at lined (count + 1) (count + 1) promised in
-          let ended : t ≡ lineEnded (numberEnded s) =
-          line-next (at lined first (count + 1) promised) refl fit refl ∙ ap lineEnded ends in
-          then-byte n newline l (sym (ended ∙ step-newline s newline refl refl)) (kept-next s t (omega arith))
+      pub reads-newline : {then : ℕ} → 0 ≡ lineFault lined first needs (count + 1) → then ≡ needsThen lined first needs (count + 1)
+          → Reads (at lined first needs count promised) (number n newline) (n ∷ []) (at lined (count + 1) then (count + 1) promised)
+      reads-newline {then} fit e =
+          let s = within lined first needs count promised n in
+          let t = at lined (count + 1) then (count + 1) promised in
+          let next : t ≡ lineEnded (at lined first needs (count + 1) promised) =
+          rw e (line-next (at lined first needs (count + 1) promised) refl fit refl) in
+          then-byte n newline l (sym (next ∙ ap lineEnded ends ∙ step-newline s newline refl refl)) (kept-next s t (omega arith))
 
 -- after the first line of a list no number is the count of pairs
-pub not-second : (first count promised n : ℕ) → 0 < first → isSecond (within true first count promised n) ≡ false
+pub not-second : (first needs count promised n : ℕ) → 0 < first → isSecond (within true first needs count promised n) ≡ false
 unfolding isSecond
-not-second first count promised n h = rw (ne-eqb first 0 (λ z. omega arith))
+not-second first needs count promised n h = rw (ne-eqb first 0 (λ z. omega arith))
 
 -- the count of pairs, at the end of a list's first line
-pub reads-promise : (n : ℕ) → n ≤ maxValue → Reads (at true 0 1 0) (number n newline) [] (at true 1 1 (4 * n + 1))
-unfolding isSecond lineFault
+pub reads-promise : (n : ℕ) → n ≤ maxValue → Reads (at true 0 0 1 0) (number n newline) [] (at true 1 0 1 (4 * n + 1))
+unfolding isSecond lineFault needsThen needLine
 reads-promise n l =
-    let s = within true 0 1 0 n in
-    let t = at true 1 1 (4 * n + 1) in
-    let ended : t ≡ lineEnded (numberEnded s) = line-next (at true 0 1 (4 * n + 1)) refl refl refl ∙ ap lineEnded (ended-second s refl refl) in
-    then-byte true 0 1 0 n newline l (sym (ended ∙ step-newline s newline refl refl)) (kept-same s t refl)
+    let s = within true 0 0 1 0 n in
+    let t = at true 1 0 1 (4 * n + 1) in
+    let ended : t ≡ lineEnded (numberEnded s) = line-next (at true 0 0 1 (4 * n + 1)) refl refl refl ∙ ap lineEnded (ended-second s refl refl) in
+    then-byte true 0 0 1 0 n newline l (sym (ended ∙ step-newline s newline refl refl)) (kept-same s t refl)

@@ -15,7 +15,7 @@ use Rattle.buffers.proofs.FillLaws.{Filled, filled-none, filled-put, filled-siz
 use Rattle.scan.specs.declared.State.{State}
 use Rattle.scan.specs.declared.Scanned.{Scanned}
 use Rattle.scan.specs.declared.Scanned.the-variants.{Numbers}
-use Rattle.scan.specs.Scan.{maxNumbers, textBytes, isBlank, start, failed, numberEnded, stepInLine, step, endFault, atEnd, finished}
+use Rattle.scan.specs.Scan.{maxNumbers, textBytes, isBlank, start, failed, numberEnded, lineEnded, stepInLine, step, endFault, atEnd, finished}
 use Rattle.scan.specs.Scan.{kept, keptIn, after, ended, last, scannedNumbers, faultIndex, faultyAt, markSize, withoutMark, scanned, storedOf}
 use Rattle.scan.specs.Scan.{TextAs, ScanAs, StateIn, ScannedTo}
 use Rattle.scan.proofs.CaseLaws.{end-none, step-stays}
@@ -83,14 +83,14 @@ module _ {lined : Bool} {bs was : List ℕ} where
       record {
         bound = omega arith;
         state = e;
-        fair = rw e (record { first = omega arith; most = omega arith });
+        fair = rw e (record { needs = omega arith; first = omega arith; most = omega arith });
         size = rw e;
         places = filled-none was;
       }
 
   module _ {now : List ℕ} {s : State} {i : ℕ} (w : Scanning lined bs was now s i) where
     pub scanning-in : StateIn s
-    scanning-in = record { first = w .fair .first; count = w .fair .most }
+    scanning-in = record { needs = w .fair .needs; first = w .fair .first; count = w .fair .most }
 
     pub scanning-size : length now ≡ length was
     scanning-size = filled-size (w .places)
@@ -106,7 +106,7 @@ module _ {lined : Bool} {bs was : List ℕ} where
         record {
           bound = omega arith;
           state = rw (one, after-one (start lined) (take i bs) byte, ← w .state) e;
-          fair = record { first = m .first; most = m .most };
+          fair = record { needs = m .needs; first = m .first; most = m .most };
           size = rw (there, length-append) (omega (arith, kept-size m, w .size));
           places = rw (there, e′) (kept-filled m room (w .size) (w .places));
         }
@@ -139,8 +139,9 @@ finish-some : (s : State) → finished s .fault ≡ 0 → 0 < finished s .count
 unfolding finished
 finish-some s = go (eqb (s .fault) 0) refl
   where
-    go : (b : Bool) → eqb (s .fault) 0 ≡ b → cond b (atEnd (numberEnded s)) s .fault ≡ 0 → 0 < cond b (atEnd (numberEnded s)) s .count
-    go true e h = end-some (numberEnded s) h
+    go : (b : Bool) → eqb (s .fault) 0 ≡ b → cond b (atEnd (lineEnded (numberEnded s))) s .fault ≡ 0
+        → 0 < cond b (atEnd (lineEnded (numberEnded s))) s .count
+    go true e h = end-some (lineEnded (numberEnded s)) h
     go false e h = absurd (eqb-false (s .fault) 0 e h)
 
 module _ {lined : Bool} {ts was : List ℕ} {mid now : List ℕ} {s t : State} (room : maxNumbers ≤ length was)
@@ -171,17 +172,19 @@ module _ {lined : Bool} {ts was : List ℕ} {mid now : List ℕ} {s t : State} (
       record {
         answer = rw (← here, ne-eqb (t .fault) 0 wrong, ← at) a;
         stored = stored;
-        counted = λ count told. (let z : _≡_ {A = ℕ} 0 1 = cc in absurd (omega arith));
+        counted = λ count needs told. (let z : _≡_ {A = ℕ} 0 1 = cc in absurd (omega arith));
       }
 
-  pub text-numbers : t .fault ≡ 0 → TextAs lined ts was now (Numbers (t .count))
+  pub text-numbers : t .fault ≡ 0 → TextAs lined ts was now (Numbers (t .count) (t .needs))
   text-numbers ok =
       record {
         answer = rw (← here, eq-eqb (t .fault) 0 ok);
         stored = stored;
         counted =
-            λ count told. (let same : count ≡ t .count = cc in
-            rw same (record { size = size; some = rw e (finish-some s (rw e at ok)); most = moved .most }));
+            λ count needs told. (let same : count ≡ t .count = cc in
+            let same′ : needs ≡ t .needs = cc in
+            let some : 0 < t .count = rw e (finish-some s (rw e at ok)) in
+            rw (same, same′) (record { size = size; some = omega (arith, moved .needs, moved .first); most = moved .most }));
       }
 
 -- ---- the mark
@@ -254,7 +257,7 @@ module _ {lined : Bool} {bs was : List ℕ} where
       record {
         answer = rw long a;
         stored = rw long;
-        counted = λ count e. (let z : _≡_ {A = ℕ} 0 1 = cc in absurd (omega arith));
+        counted = λ count needs e. (let z : _≡_ {A = ℕ} 0 1 = cc in absurd (omega arith));
       }
 
   pub scan-short : {now : List ℕ} {r : Scanned} {from : ℕ} → length bs ≤ textBytes → from ≡ markSize bs
@@ -264,4 +267,4 @@ module _ {lined : Bool} {bs was : List ℕ} where
       let short = le-ltb textBytes (length bs) h in
       let text : take (length bs - from) (drop from bs) ≡ withoutMark bs = rw (lent-is bs from, e) in
       let a : TextAs lined (withoutMark bs) was now r = rw text at told in
-      record { answer = rw short (a .answer); stored = rw short (a .stored); counted = λ count c. rw short (a .counted count c) }
+      record { answer = rw short (a .answer); stored = rw short (a .stored); counted = λ count needs c. rw short (a .counted count needs c) }

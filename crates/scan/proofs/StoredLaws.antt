@@ -21,9 +21,10 @@ none-stored : (lined : Bool) (text : List ℕ) → ltb textBytes (length text) �
 unfolding storedOf
 none-stored lined text l = rw l
 
-module _ {lined : Bool} {text was now : List ℕ} {r : Scanned} (a : ScanAs lined text was now r) {count : ℕ} (e : r ≡ Numbers count) where
+module _ {lined : Bool} {text was now : List ℕ} {r : Scanned} (a : ScanAs lined text was now r)
+    {count needs : ℕ} (e : r ≡ Numbers count needs) where
   pub stored-size : length (storedOf lined text) ≡ count
-  stored-size = sym (a .counted count e .size)
+  stored-size = sym (a .counted count needs e .size)
 
   pub stored-front : take count now ≡ storedOf lined text
   stored-front = filled-front (storedOf lined text) was stored-size (a .stored)
@@ -36,7 +37,7 @@ module _ {lined : Bool} {text was now : List ℕ} {r : Scanned} (a : ScanAs line
   stored-lent = rw stored-front (sym stored-size)
 
   pub stored-some : 0 < length (storedOf lined text)
-  stored-some = omega (arith, stored-size, a .counted count e .some)
+  stored-some = omega (arith, stored-size, a .counted count needs e .some)
 
   -- the text is not too long
   pub stored-short : length text ≤ textBytes

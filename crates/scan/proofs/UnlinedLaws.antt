@@ -57,7 +57,7 @@ module _ (s : State) (u : Unlined s) where
       (failed-unlined 5 (no-line 5 refl refl refl)))
       u)
 
-  no-fault : lineFault (s .lined) (s .first) (s .count) ≡ 0
+  no-fault : lineFault (s .lined) (s .first) (s .needs) (s .count) ≡ 0
   unfolding lineFault
   no-fault = rw (u .lined)
 
@@ -67,7 +67,7 @@ module _ (s : State) (u : Unlined s) where
 
   end-no-line : NoLine (endFault s)
   unfolding endFault
-  end-no-line = rw (no-fault, u .promised) (go (eqb (s .count) 0))
+  end-no-line = rw (u .promised) (go (eqb (s .count) 0))
     where
       go : (b : Bool) → NoLine (cond b 6 0)
       go true = no-line 6 refl refl refl
@@ -96,7 +96,7 @@ module _ (s : State) (u : Unlined s) where
 
   finish-unlined : Unlined (finished s)
   unfolding finished
-  finish-unlined = either (eqb (s .fault) 0) (end-unlined (numberEnded s) (ended-unlined s u)) u
+  finish-unlined = either (eqb (s .fault) 0) (end-unlined (lineEnded (numberEnded s)) (line-unlined (numberEnded s) (ended-unlined s u))) u
 
 after-unlined : (s : State) → Unlined s → (bs : List ℕ) → Unlined (after s bs)
 unfolding after
@@ -108,7 +108,7 @@ last-unlined bs = finish-unlined (after (start false) bs) (after-unlined (start 
 
 -- the fault of a text that is faulty
 faultOf : Scanned → ℕ
-faultOf (Numbers count) = 0
+faultOf (Numbers count needs) = 0
 faultOf (Faulty fault line column byte) = fault
 
 scanned-unlined : (bs : List ℕ) → NoLine (faultOf (scanned false bs))
@@ -119,7 +119,7 @@ scanned-unlined bs = go (ltb textBytes (length bs)) (eqb (last false ts .fault) 
     ts = withoutMark bs
 
     go : (b b′ : Bool) → NoLine (faultOf (cond b (faultyAt 7 bs textBytes)
-        (cond b′ (Numbers (last false ts .count)) (faultyAt (last false ts .fault) ts (faultIndex false ts)))))
+        (cond b′ (Numbers (last false ts .count) (last false ts .needs)) (faultyAt (last false ts .fault) ts (faultIndex false ts)))))
     go true b′ = no-line 7 refl refl refl
     go false true = none
     go false false = last-unlined ts .fault

@@ -1,14 +1,15 @@
 -- Decimal numbers in a text, read byte by byte. Spaces, commas, tabs and carriage returns stand between them; from `#` to the end of its
 -- line is a comment; a byte order mark at the start is skipped; the last newline may be missing.
--- In the lines of a delay list the first line with a number has one, the count of registers, or two, that and the count of pairs; each
--- later one has four, those of a pair. Lines without a number are skipped.
+-- In the lines of a delay list the first line with a number has one, the count of registers, or two, that and the count of pairs. Then
+-- there may be lines of two, the needs of a register: hold and setup. Each later one has four, those of a pair. Lines without a number
+-- are skipped.
 use Prim.Native.Nat.{ℕ, suc, _+_, _-_, _*_, _≤_, _<_}
 use mathlib.Core.Bool.{Bool, false, true, cond, _&&_, _||_}
 use mathlib.Core.List.{List, [], _∷_, _++_}
 use mathlib.Core.Path.{_≡_}
 use lib.Dec.{ltb, leb, eqb}
 use lib.ListN.{length, set, getD, take, drop}
-use Rattle.timing.specs.Limits.{maxPairs}
+use Rattle.timing.specs.Limits.{maxRegisters, maxPairs}
 use Rattle.buffers.specs.Over.{over}
 use Rattle.text_pieces.specs.Pieces.{zeroByte, nineByte, space, newline}
 use Rattle.scan.specs.declared.State.{State}
@@ -16,9 +17,9 @@ use Rattle.scan.specs.declared.Place.{Place}
 use Rattle.scan.specs.declared.Scanned.{Scanned}
 use Rattle.scan.specs.declared.Scanned.the-variants.{Numbers, Faulty}
 
--- the most numbers that a text may hold: the count of registers, and four for each pair
+-- the most numbers that a text may hold: the count of registers, two for each register, and four for each pair
 abbrev pub maxNumbers : ℕ
-maxNumbers = 4 * maxPairs + 1
+maxNumbers = 4 * maxPairs + 2 * maxRegisters + 1
 
 -- the longest text
 abbrev pub textBytes : ℕ
@@ -39,7 +40,18 @@ abbrev pub commentByte : ℕ
 commentByte = 35
 
 abbrev pub start : Bool → State
-start lined = record { lined = lined; first = 0; count = 0; promised = 0; inside = false; value = 0; comment = false; fault = 0 }
+start lined =
+    record {
+      lined = lined;
+      first = 0;
+      needs = 0;
+      count = 0;
+      promised = 0;
+      inside = false;
+      value = 0;
+      comment = false;
+      fault = 0;
+    }
 
 -- something is wrong; nothing that follows changes that
 abbrev pub failed : State → ℕ → State
@@ -47,6 +59,7 @@ failed s fault =
     record {
       lined = s .lined;
       first = s .first;
+      needs = s .needs;
       count = s .count;
       promised = s .promised;
       inside = s .inside;
@@ -61,6 +74,7 @@ valued s value =
     record {
       lined = s .lined;
       first = s .first;
+      needs = s .needs;
       count = s .count;
       promised = s .promised;
       inside = true;
@@ -83,6 +97,7 @@ outside s count promised =
     record {
       lined = s .lined;
       first = s .first;
+      needs = s .needs;
       count = count;
       promised = promised;
       inside = false;
@@ -99,11 +114,24 @@ numberEnded s =
     (cond (ltb (s .count) maxNumbers) (outside s (s .count + 1) (s .promised)) (failed s 5)))
     s
 
--- what is wrong with the end of a line, after `first` numbers in the lines before and `count` in all.
--- 3: not one number in the first line of a list, or two. 4: not four in a later one
-unfoldable pub lineFault : Bool → ℕ → ℕ → ℕ
-lineFault lined first count =
-    cond lined (cond (eqb count first) 0 (cond (eqb first 0) (cond (eqb count 1) 0 3) (cond (eqb count (first + 4)) 0 4))) 0
+-- At the end of a line `first` numbers stand in the lines before, of which `needs` are needs, and `count` in all.
+
+-- whether the line holds the needs of a register: two numbers, and before it only the first line and lines of needs
+unfoldable pub needLine : Bool → ℕ → ℕ → ℕ → Bool
+needLine lined first needs count = lined && (eqb first (needs + 1) && eqb count (first + 2))
+
+-- how many numbers are needs then
+unfoldable pub needsThen : Bool → ℕ → ℕ → ℕ → ℕ
+needsThen lined first needs count = cond (needLine lined first needs count) (needs + 2) needs
+
+-- what is wrong with the line. 3: not one number in the first line of a list, or two. 4: neither the two needs of a register, before the
+-- pairs, nor the four of a pair in a later one
+unfoldable pub lineFault : Bool → ℕ → ℕ → ℕ → ℕ
+lineFault lined first needs count =
+    cond lined
+    (cond (eqb count first) 0
+    (cond (eqb first 0) (cond (eqb count 1) 0 3) (cond (eqb count (first + 4)) 0 (cond (needLine lined first needs count) 0 4))))
+    0
 
 -- the next line
 abbrev pub nextLine : State → State
@@ -111,6 +139,7 @@ nextLine s =
     record {
       lined = s .lined;
       first = s .count;
+      needs = needsThen (s .lined) (s .first) (s .needs) (s .count);
       count = s .count;
       promised = s .promised;
       inside = s .inside;
@@ -122,7 +151,7 @@ nextLine s =
 -- the end of a line
 unfoldable pub lineEnded : State → State
 lineEnded s =
-    let wrong : ℕ = lineFault (s .lined) (s .first) (s .count) in
+    let wrong : ℕ = lineFault (s .lined) (s .first) (s .needs) (s .count) in
     cond (eqb (s .fault) 0) (cond (eqb wrong 0) (nextLine s) (failed s wrong)) s
 
 -- a comment begins
@@ -131,6 +160,7 @@ commented s =
     record {
       lined = s .lined;
       first = s .first;
+      needs = s .needs;
       count = s .count;
       promised = s .promised;
       inside = s .inside;
@@ -153,20 +183,18 @@ step s byte =
     (cond (eqb byte newline) (lineEnded (numberEnded s)) (cond (s .comment) s (stepInLine s byte)))
     s
 
--- what is wrong with the end of the text, which ends its last line. 6: no number at all. 8: not as many pairs as the first line says
+-- what is wrong with the end of the text. 6: no number at all. 8: not as many pairs as the first line says; needs are not counted
 unfoldable pub endFault : State → ℕ
 endFault s =
-    let wrong : ℕ = lineFault (s .lined) (s .first) (s .count) in
-    cond (eqb (s .count) 0) 6
-    (cond (eqb wrong 0) (cond (eqb (s .promised) 0) 0 (cond (eqb (s .count) (s .promised)) 0 8)) wrong)
+    cond (eqb (s .count) 0) 6 (cond (eqb (s .promised) 0) 0 (cond (eqb (s .count - s .needs) (s .promised)) 0 8))
 
--- the end of the text, with no number begun
+-- the end of the text, after its last line
 unfoldable pub atEnd : State → State
 atEnd s = cond (eqb (s .fault) 0) (failed s (endFault s)) s
 
--- the end of the text
+-- the end of the text, which ends its last number and its last line
 unfoldable pub finished : State → State
-finished s = cond (eqb (s .fault) 0) (atEnd (numberEnded s)) s
+finished s = cond (eqb (s .fault) 0) (atEnd (lineEnded (numberEnded s))) s
 
 -- the number that ended on the way from one state to the next, if any
 unfoldable pub kept : State → State → List ℕ
@@ -235,9 +263,11 @@ faultIndex lined ts = goesTo (maxNumbers + 1) (start lined) ts
 abbrev pub faultyAt : ℕ → List ℕ → ℕ → Scanned
 faultyAt fault ts i = Faulty fault (placeOf ts i .line) (placeOf ts i .column) (getD ts i 256)
 
--- the count of the numbers, or what is wrong and where
+-- the count of the numbers and of the needs among them, or what is wrong and where
 abbrev pub resultOf : Bool → List ℕ → Scanned
-resultOf lined ts = cond (eqb (last lined ts .fault) 0) (Numbers (last lined ts .count)) (faultyAt (last lined ts .fault) ts (faultIndex lined ts))
+resultOf lined ts =
+    cond (eqb (last lined ts .fault) 0) (Numbers (last lined ts .count) (last lined ts .needs))
+    (faultyAt (last lined ts .fault) ts (faultIndex lined ts))
 
 -- the bytes of a byte order mark at the start
 unfoldable pub markSize : List ℕ → ℕ
@@ -251,9 +281,9 @@ withoutMark bs = drop (markSize bs) bs
 abbrev pub lineIn : ℕ → List ℕ → ℕ
 lineIn enough ts = placeOf ts (goesTo enough (start true) ts) .line
 
--- that of pair k, whose last number is number 4 * k + 5
-abbrev pub lineOfPair : ℕ → List ℕ → ℕ
-lineOfPair k bs = lineIn (4 * k + 5) (withoutMark bs)
+-- the line in which number k of a text ends, counted from 1
+abbrev pub lineOf : ℕ → List ℕ → ℕ
+lineOf k bs = lineIn k (withoutMark bs)
 
 -- 7: a text that is too long, the mark counted: the first byte too many is at fault
 unfoldable pub scanned : Bool → List ℕ → Scanned
@@ -263,28 +293,29 @@ scanned lined bs = cond (ltb textBytes (length bs)) (faultyAt 7 bs textBytes) (r
 unfoldable pub storedOf : Bool → List ℕ → List ℕ
 storedOf lined bs = cond (ltb textBytes (length bs)) [] (scannedNumbers lined (withoutMark bs))
 
--- as many numbers are stored as are said, at least one
-pub record Counted (xs : List ℕ) (count : ℕ) : Type 0 where
+-- as many numbers are stored as are said, at least one beside the needs
+pub record Counted (xs : List ℕ) (count needs : ℕ) : Type 0 where
   pub size : count ≡ length xs
-  pub some : 0 < count
+  pub some : needs < count
   pub most : count ≤ maxNumbers
 
 -- a text ts after its mark was read, into places that held `was` and hold `now`
 pub record TextAs (lined : Bool) (ts was now : List ℕ) (r : Scanned) : Type 0 where
   pub answer : r ≡ resultOf lined ts
   pub stored : now ≡ over (scannedNumbers lined ts) was
-  pub counted : (count : ℕ) → r ≡ Numbers count → Counted (scannedNumbers lined ts) count
+  pub counted : (count needs : ℕ) → r ≡ Numbers count needs → Counted (scannedNumbers lined ts) count needs
 
 -- a whole text bs was
 pub record ScanAs (lined : Bool) (bs was now : List ℕ) (r : Scanned) : Type 0 where
   pub answer : r ≡ scanned lined bs
   pub stored : now ≡ over (storedOf lined bs) was
-  pub counted : (count : ℕ) → r ≡ Numbers count → Counted (storedOf lined bs) count
+  pub counted : (count needs : ℕ) → r ≡ Numbers count needs → Counted (storedOf lined bs) count needs
 
 -- ---- what holds on the way
 
 -- a state that a text can lead to
 pub record StateIn (s : State) : Type 0 where
+  pub needs : s .needs ≤ s .first - 1
   pub first : s .first ≤ s .count
   pub count : s .count ≤ maxNumbers
 

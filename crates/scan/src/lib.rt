@@ -3,14 +3,15 @@
 ghost use mathlib.Core.Path.{_≡_};
 ghost use Prim.Native.Nat.{_+_, _≤_, _<_};
 ghost use lib.ListN.{length, getD};
-ghost use Rattle.timing.specs.Limits.{maxPairs};
-ghost use Rattle.scan.specs.Scan.{textBytes, maxNumbers, isBlank, start, failed, withDigit, isSecond, numberEnded, lineFault, lineEnded};
+ghost use Rattle.scan.specs.Scan.{textBytes, maxNumbers, isBlank, start, failed, withDigit, isSecond, numberEnded};
+ghost use Rattle.scan.specs.Scan.{needLine, needsThen, lineFault, lineEnded};
 ghost use Rattle.scan.specs.Scan.{stepInLine, step, endFault, finished, keptIn, nextPlace, placeOf, stops};
-ghost use Rattle.scan.specs.Scan.{faultyAt, lineIn, lineOfPair, markSize, StateIn, PlaceIn, ScannedTo, GoesTo, TextAs, ScanAs};
+ghost use Rattle.scan.specs.Scan.{faultyAt, lineIn, lineOf, markSize, StateIn, PlaceIn, ScannedTo, GoesTo, TextAs, ScanAs};
 use timing::MAX_PAIRS;
+use timing::MAX_REGISTERS;
 
-// The most numbers that a text may hold: the count of registers, and four for each pair.
-pub const MAX_NUMBERS: usize = 4 * MAX_PAIRS + 1;
+// The most numbers that a text may hold: the count of registers, two for each register, and four for each pair.
+pub const MAX_NUMBERS: usize = 4 * MAX_PAIRS + 2 * (MAX_REGISTERS as usize) + 1;
 
 // The largest of them: 32 bits.
 const MAX_VALUE: u64 = 4_294_967_295;
@@ -24,9 +25,11 @@ pub struct State {
     pub lined: bool,
     // the numbers that stand in the lines before this one
     pub first: usize,
+    // how many of them are needs
+    pub needs: usize,
     // the numbers that have ended
     pub count: usize,
-    // 0, or how many there are by the count of pairs in the first line
+    // 0, or how many there are beside the needs by the count of pairs in the first line
     pub promised: usize,
     // whether a number has begun, and its value so far
     pub inside: bool,
@@ -46,9 +49,10 @@ pub struct Place {
 // The byte that is named where a text is at fault at its end.
 pub const END: u32 = 256;
 
-// What reading a text comes to: the count of its numbers; or what is wrong, the line, the column and the byte there.
+// What reading a text comes to: the count of its numbers and how many of them are needs, which stand right after the first number; or what
+// is wrong, the line, the column and the byte there.
 pub enum Scanned {
-    Numbers(usize),
+    Numbers(usize, usize),
     Faulty(u32, usize, usize, u32),
 }
 
@@ -58,6 +62,7 @@ fn begin(lined: bool) -> State
     State {
         lined,
         first: 0,
+        needs: 0,
         count: 0,
         promised: 0,
         inside: false,
@@ -154,12 +159,13 @@ impl State {
         if self.fault != 0 {
             return self;
         }
-        let fault = line_fault(self.lined, self.first, self.count);
+        let fault = line_fault(self.lined, self.first, self.needs, self.count);
         if fault != 0 {
             return self.fail(fault);
         }
         let mut next = self;
         next.first = self.count;
+        next.needs = needs_then(self.lined, self.first, self.needs, self.count);
         next.comment = false;
         next.fault = 0;
         next
@@ -204,7 +210,7 @@ impl State {
         self.step_in_line(byte)
     }
 
-    // What is wrong with the end of the text, which ends its last line. 6: no number at all. 8: not as many pairs as the first line says.
+    // What is wrong with the end of the text. 6: no number at all. 8: not as many pairs as the first line says.
     fn end_fault(self) -> u32
         requires { ⌜ StateIn self ⌝ }
         ensures { λ r. ⌜ r ≡ endFault self ⌝ }
@@ -212,20 +218,16 @@ impl State {
         if self.count == 0 {
             return 6;
         }
-        let wrong = line_fault(self.lined, self.first, self.count);
-        if wrong != 0 {
-            return wrong;
-        }
         if self.promised == 0 {
             return 0;
         }
-        if self.count == self.promised {
+        if self.count - self.needs == self.promised {
             return 0;
         }
         8
     }
 
-    // The end of the text.
+    // The end of the text, which ends its last number and its last line.
     fn finish(self) -> State
         requires { ⌜ StateIn self ⌝ }
         ensures { λ r. ⌜ r ≡ finished self ⌝ }
@@ -233,7 +235,7 @@ impl State {
         if self.fault != 0 {
             return self;
         }
-        let last = self.close();
+        let last = self.close().end_line();
         if last.fault != 0 {
             return last;
         }
@@ -241,11 +243,36 @@ impl State {
     }
 }
 
-// What is wrong with the end of a line, after `first` numbers in the lines before and `count` in all.
-// 3: not one number in the first line of a list, or two. 4: not four in a later one.
-fn line_fault(lined: bool, first: usize, count: usize) -> u32
-    requires { ⌜ first ≤ maxNumbers ⌝ }
-    ensures { λ r. ⌜ r ≡ lineFault lined first count ⌝ }
+// Whether a line holds the needs of a register, after `first` numbers in the lines before, of which `needs` are needs, and `count` in all.
+fn need_line(lined: bool, first: usize, needs: usize, count: usize) -> bool
+    requires { ⌜ (first ≤ maxNumbers) × (needs ≤ maxNumbers) ⌝ }
+    ensures { λ r. ⌜ r ≡ needLine lined first needs count ⌝ }
+{
+    if !lined {
+        return false;
+    }
+    if first != needs + 1 {
+        return false;
+    }
+    count == first + 2
+}
+
+// How many numbers are needs after the line.
+fn needs_then(lined: bool, first: usize, needs: usize, count: usize) -> usize
+    requires { ⌜ (first ≤ maxNumbers) × (needs ≤ maxNumbers) ⌝ }
+    ensures { λ r. ⌜ r ≡ needsThen lined first needs count ⌝ }
+{
+    if need_line(lined, first, needs, count) {
+        return needs + 2;
+    }
+    needs
+}
+
+// What is wrong with the line. 3: not one number in the first line of a list, or two. 4: neither the two needs of a register, before the
+// pairs, nor the four of a pair in a later one.
+fn line_fault(lined: bool, first: usize, needs: usize, count: usize) -> u32
+    requires { ⌜ (first ≤ maxNumbers) × (needs ≤ maxNumbers) ⌝ }
+    ensures { λ r. ⌜ r ≡ lineFault lined first needs count ⌝ }
 {
     if !lined {
         return 0;
@@ -260,6 +287,9 @@ fn line_fault(lined: bool, first: usize, count: usize) -> u32
         return 3;
     }
     if count == first + 4 {
+        return 0;
+    }
+    if need_line(lined, first, needs, count) {
         return 0;
     }
     4
@@ -404,7 +434,7 @@ fn scan_text(text: &[u8], lined: bool, numbers: &mut [u32]) -> Scanned
         let at = goes_to(text, lined, MAX_NUMBERS + 1);
         return faulty(text, last.fault, at);
     }
-    Scanned::Numbers(last.count)
+    Scanned::Numbers(last.count, last.needs)
 }
 
 // The bytes of a byte order mark at the start: 3, or 0 if there is none.
@@ -436,16 +466,16 @@ fn line_in(text: &[u8], enough: usize) -> usize
     place.line
 }
 
-// The line of pair k in the text of a list.
-pub fn line_of_pair(bytes: &[u8], k: usize) -> usize
-    requires { ⌜ (length (now bytes) ≤ textBytes) × (k ≤ maxPairs) ⌝ }
-    ensures { λ r. ⌜ r ≡ lineOfPair k (now (bytes .entry)) ⌝ }
+// The line of the text of a list in which number k ends, counted from 1.
+pub fn line_of(bytes: &[u8], k: usize) -> usize
+    requires { ⌜ length (now bytes) ≤ textBytes ⌝ }
+    ensures { λ r. ⌜ r ≡ lineOf k (now (bytes .entry)) ⌝ }
 {
     let from = mark_size(bytes);
-    line_in(&bytes[from..], 4 * k + 5)
+    line_in(&bytes[from..], k)
 }
 
-// The numbers of a text, in the first places of `numbers`; later places keep their contents. Their count is returned.
+// The numbers of a text, in the first places of `numbers`; later places keep their contents. Their count and that of the needs are returned.
 // Of a faulty text the numbers before the fault are stored, and what is wrong and where is returned; 7: a text that is too long, with the
 // first byte too many.
 pub fn scan(bytes: &[u8], lined: bool, numbers: &mut [u32; MAX_NUMBERS]) -> Scanned

@@ -29,7 +29,12 @@ fn make_usage(to: i32, errors: i32) {
     );
     write_out(
         to,
-        b"you like, that of pairs, then a line for each pair: launch capture least greatest. Commas count as spaces, # begins a comment.\n",
+        b"you like, that of pairs; then, if you like, a line for each register: hold setup; then one for each pair: launch capture least\n",
+        errors,
+    );
+    write_out(
+        to,
+        b"greatest. Commas count as spaces, # begins a comment.\n",
         errors,
     );
 }
@@ -78,7 +83,7 @@ fn show_usage(to: i32, errors: i32) {
     );
     write_out(
         to,
-        b"pair: launch capture least greatest. make_list reads it back.\n",
+        b"register if one has needs: hold setup; then one for each pair: launch capture least greatest. make_list reads it back.\n",
         errors,
     );
 }

@@ -1,7 +1,8 @@
-// The programs on what they refuse or find wrong: texts that are empty, faulty, cut at the end of a line, or name register 2 of 2; lists
-// that are refused; no split; schedules that break hold and setup, are faulty, have a timing too few or one too large; periods and
-// offsets out of range; a text that is too long, a directory, output that cannot be written, and no arguments. Then a text of the
-// largest size, with commas.
+// The programs on what they refuse or find wrong: texts that are empty, faulty, cut at the end of a line, or name register 2 of 2; needs
+// after a pair, too large, above a least delay, or of one register of two; lists that are refused, and two that are shown, without
+// needs and with them; no split; schedules that break hold and setup, are faulty, have a timing too few or one too large; periods and
+// offsets out of range; a text that is too long, a directory, output that cannot be written, and no arguments. Then texts without
+// needs, with needs in the last line, and of the largest size, with commas.
 use libc::STDOUT_FILENO;
 use text_programs::check_from;
 use text_programs::make_from;
@@ -9,6 +10,10 @@ use text_programs::split_from;
 
 fn make(name: &[u8]) {
     make_from(os::open_read(name), name, STDOUT_FILENO, STDOUT_FILENO);
+}
+
+fn show(name: &[u8]) {
+    text_programs::show_from(os::open_read(name), name, STDOUT_FILENO, STDOUT_FILENO);
 }
 
 fn split(period: u32, offset: u32) {
@@ -45,19 +50,19 @@ fn texts() {
     make(b".");
 }
 
+fn needs() {
+    make(b"after");
+    make(b"need");
+    make(b"hold");
+    make(b"fewer");
+}
+
 fn lists() {
-    text_programs::show_from(
-        os::open_read(b"list"),
-        b"list",
-        STDOUT_FILENO,
-        STDOUT_FILENO,
-    );
-    text_programs::show_from(
-        os::open_read(b"refused"),
-        b"refused",
-        STDOUT_FILENO,
-        STDOUT_FILENO,
-    );
+    show(b"list");
+    show(b"needs");
+    show(b"zero");
+    show(b"held");
+    show(b"refused");
     text_programs::free_from(
         os::open_read(b"refused"),
         b"refused",
@@ -72,7 +77,7 @@ fn lists() {
     );
     split(6, 4);
     split(0, 4);
-    split(7, 1_000_001);
+    split(7, 1_010_000);
 }
 
 fn schedules() {
@@ -81,14 +86,17 @@ fn schedules() {
     check(7, b"word");
     check(7, b"few");
     check(7, b"high");
-    check(1_000_001, b"wide");
+    check(1_010_000, b"wide");
 }
 
 fn main() {
     texts();
+    needs();
     lists();
     schedules();
     text_programs::split_at(STDOUT_FILENO, STDOUT_FILENO);
     text_programs::check_schedule(STDOUT_FILENO, STDOUT_FILENO);
+    make(b"plain");
+    make(b"last");
     make(b"largest");
 }

@@ -42,7 +42,7 @@ fn given_hold(needs: &[u32], r: u32) -> u32
 }
 
 // Whether all needs are 0.
-fn none_needed(needs: &[u32]) -> bool
+pub fn none_needed(needs: &[u32]) -> bool
     ensures { λ r. ⌜ r ≡ noNeeds (now (needs .entry)) ⌝ }
 {
     let mut i = 0;

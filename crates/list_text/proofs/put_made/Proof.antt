@@ -15,14 +15,16 @@ returns : tie.Need-returns
 returns c =
     let w = c .before .before .before .before .before in
     let v = w .before .before .before in
-    make-refused (v .write .ensures) (v .before .before .before .before .before .args .text .now) (w .number .given .1)
+    let a = v .before .before .before .before .before .before .args in
+    make-refused (v .write .ensures) (a .text .now) (a .needs) (w .number .given .1)
     (c .before .before .put-refused .ensures)
 
 returns-2 : tie.Need-returns-2
 returns-2 c =
     let w = c .before .before .before .before .before .before in
     let v = w .before .before .before in
-    make-written (v .write .ensures) (w .count .given .1) (v .before .before .before .before .before .args .text .now)
+    let a = v .before .before .before .before .before .before .args in
+    make-written (v .write .ensures) (w .count .given .1) (a .text .now) (a .needs)
     (c .before .before .put-bytes .ensures)
 
 pub put-made-spec : {M : Type 1} → statement M

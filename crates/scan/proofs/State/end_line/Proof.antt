@@ -12,9 +12,12 @@ returns-2 : tie.Need-returns-2
 returns-2 c = c .fail .ensures ∙ line-fails _ (c .before .before .before .if1 .left) (c .before .before .line-fault .ensures) (c .before .if2 .taken)
 
 returns-3 : tie.Need-returns-3
-returns-3 c = line-next _ (c .before .before .if1 .left) (c .before .line-fault .ensures) (c .if2 .left)
+returns-3 c =
+    let w = c .before in
+    let s = w .before .before .before .before .args .self in
+    rw (c .needs-then .ensures) (line-next s (w .before .before .if1 .left) (w .before .line-fault .ensures) (w .if2 .left))
 
 pub end-line-spec : {M : Type 1} → statement M
 end-line-spec =
     tie.close
-    (tie.spec returns (λ c κs. search needs) (λ c κs. search needs) returns-2 returns-3)
+    (tie.spec returns (λ c κs. search needs) (λ c κs. search needs) returns-2 (λ c κs. search needs) returns-3)

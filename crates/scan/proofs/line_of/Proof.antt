@@ -1,14 +1,14 @@
--- `line_of_pair`: the line in the part of the text after its mark.
+-- `line_of`: the line in the part of the text after its mark.
 use Rattle.scan.proofs.ScanLaws.{mark-fits, lent-is, lent-short}
 use borrow.Author.Needs.{needs}
-use Rattle.scan.proofs.line_of_pair.Statement.{statement}
-use Rattle.scan.proofs.line_of_pair.Tie as tie
+use Rattle.scan.proofs.line_of.Statement.{statement}
+use Rattle.scan.proofs.line_of.Tie as tie
 
 line-in-requires : tie.Need-line-in-requires
 line-in-requires c κs =
     let w = c .before in
     let v = w .before .before in
-    lent-short (v .args .bytes .now) (w .mark-size .result) (v .pre .0)
+    lent-short (v .args .bytes .now) (w .mark-size .result) (v .pre)
 
 returns : tie.Need-returns
 returns c =
@@ -16,9 +16,9 @@ returns c =
     let bs = w .before .before .args .bytes .now in
     rw (lent-is bs (w .mark-size .result), w .mark-size .ensures) at (c .line-in .ensures)
 
-pub line-of-pair-spec : {M : Type 1} → statement M
-line-of-pair-spec =
+pub line-of-spec : {M : Type 1} → statement M
+line-of-spec =
     tie.close
     (tie.spec
     (λ c κs. search needs) (λ c. rw (c .mark-size .ensures) (mark-fits _)) (λ c. rw (c .mark-size .ensures) (mark-fits _))
-    (λ c. search needs) (λ c. search needs) (λ c. search needs) line-in-requires returns)
+    (λ c. search needs) line-in-requires returns)
