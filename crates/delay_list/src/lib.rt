@@ -276,8 +276,8 @@ fn three_at(words: &[u32], needs: usize, k: usize) -> Pair
     requires { ⌜ (needs ≡ needWords (now words)) × ((needs < 2 ^ registerBits) × PairIn (now words) k) ⌝ }
     ensures { λ r. ⌜ IsWritten (now (words .entry)) k r ⌝ }
 {
-    let at = pair_place(needs, k);
-    pair_of(words[at], words[at + 1], words[at + 2])
+    let first = pair_place(needs, k);
+    pair_of(words[first], words[first + 1], words[first + 2])
 }
 
 // Pair k as it is written, from its three words.

@@ -100,8 +100,8 @@ fn pairs_fault(n: u32, numbers: &[u32], needs: &[u32], count: usize, m: usize, r
         let p = given_pair(numbers, k);
         let hold = given_hold(needs, p.capture);
         let found = delay_list::value_fault(Fault::None, n, hold, p, k, k, k);
-        if let Fault::At(number, place) = found {
-            return Fault::At(number, place);
+        if let Fault::At(number, index) = found {
+            return Fault::At(number, index);
         }
         k += 1;
     }
