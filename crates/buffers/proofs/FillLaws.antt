@@ -92,7 +92,8 @@ module _ (xs was : List ℕ) {now : List ℕ} {k : ℕ} (size : length xs ≡ k)
   filled-fits = rw (e, length-append) (omega (arith, size))
 
 -- the first k places were filled, and then those that follow them
-pub over-more : (xs ys was : List ℕ) {now : List ℕ} {k : ℕ} → length xs ≡ k → now ≡ over xs was → over (take k now ++ ys) now ≡ over (xs ++ ys) was
+pub over-more : (xs ys was : List ℕ) {now : List ℕ} {k : ℕ} → length xs ≡ k → now ≡ over xs was
+    → over (take k now ++ ys) now ≡ over (xs ++ ys) was
 over-more xs ys was {now} {k} size e = rw (e, take-at xs (drop (length xs) was) k size, length-append xs ys, drop-append-add, drop-drop)
 
 -- a store in the first place, and then what follows it

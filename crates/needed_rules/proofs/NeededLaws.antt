@@ -35,7 +35,8 @@ module _ (ws : List ℕ) (a : IsAccepted ws) where
   holds k h = accepted-in ws a .values k h .holds
 
   -- from pair to pair
-  by-pair : (P : Pair → Type 0) (Q : ℕ → Type 0) → ((k : ℕ) → k < pairCount ws → Iff (P (pairAt ws k)) (Q k)) → Iff (Each P (pairs ws)) (EachPair ws Q)
+  by-pair : (P : Pair → Type 0) (Q : ℕ → Type 0) → ((k : ℕ) → k < pairCount ws → Iff (P (pairAt ws k)) (Q k))
+      → Iff (Each P (pairs ws)) (EachPair ws Q)
   by-pair P Q each =
       record { to = λ e k h. each k h .to (pair-holds ws P e k h); from = λ e. each-pair ws P (λ k h. each k h .from (e k h)) }
 
