@@ -7,7 +7,7 @@ use Rattle.buffers.specs.Run.{run}
 use Rattle.words.specs.Word.{total}
 use Rattle.refusals.specs.Checks.{orCheck, faultAfter, eachCheck}
 use Rattle.refusals.specs.Reply.{unless, told}
-use Rattle.list_format.specs.Lists.{pairsFrom}
+use Rattle.list_format.specs.Lists.{needWordsBy, holdAt, setupAt, pairAt, pairsFrom, noNeeds}
 use Rattle.free_laws.specs.Free.{relax, round, rounds, freeAt, freeWorks, common, freePeriod, freeSchedule}
 use Rattle.split_laws.specs.Split.{works, splits, firstOf, firstSplit, splitWorks}
 use Rattle.plan_laws.specs.Plan.{twoWorks, twoPeriod, twoOffset, twoSplit, twoTimings}
@@ -18,7 +18,7 @@ use Rattle.report.specs.Report.{periodsLine, registerLines, report}
 use Rattle.report.specs.Printed.{printedTable}
 
 pub printed-shown : map (λ p. report (p .bytes)) printedTable ≡ map (λ p. letters (p .text)) printedTable
-unfolding printedTable admissible firstFrom least run total orCheck faultAfter eachCheck unless pairsFrom
+unfolding printedTable admissible firstFrom least run total orCheck faultAfter eachCheck unless needWordsBy holdAt setupAt pairAt pairsFrom noNeeds
     relax round rounds freeAt freeWorks common freePeriod freeSchedule works splits firstOf firstSplit
     splitWorks twoWorks twoPeriod twoOffset twoSplit twoTimings planning
     decimalIn decimal refusedAt periodsLine registerLines told listOf report
