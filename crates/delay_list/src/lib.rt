@@ -6,7 +6,7 @@ ghost use mathlib.Core.List.{[], _∷_};
 ghost use Prim.Native.Nat.{_+_, _-_, _*_, _^_, _<_, _≤_};
 ghost use lib.Dec.{ltb};
 ghost use lib.ListN.{length};
-ghost use Rattle.words.specs.Word.{countBits, registerBits, kindLeast, kindGreatest, kindOf, holdOf, setupOf};
+ghost use Rattle.words.specs.Word.{countBits, registerBits, holdOf, setupOf};
 ghost use Rattle.timing.specs.Limits.{maxDelay};
 ghost use Rattle.refusals.specs.Checks.{firstFault, faultAfter};
 ghost use Rattle.list_format.specs.Lists.{word, registers, pairCount, needWordsBy, needWords, holdAt, setupAt, needsOf, placeBy, pairPlace, placeOf, pairOf};
@@ -271,26 +271,13 @@ pub fn need_count(words: &[u32]) -> usize
 // The smallest word of needs. Where there is a pair, a word after the head that is no word of needs is its first, which is smaller.
 const FIRST_NEEDS: u32 = 0xA000_0000;
 
-// The pair that three words make whose kinds are known.
-fn known_pair(pair: u32, least: u32, greatest: u32) -> Pair
-    requires { ⌜ (kindOf least ≡ kindLeast) × (kindOf greatest ≡ kindGreatest) ⌝ }
-    ensures { λ r. ⌜ r ≡ pairOf pair least greatest ⌝ }
-{
-    Pair {
-        launch: words::launch(pair),
-        capture: words::capture(pair),
-        least: words::payload_of(words::KIND_LEAST, least),
-        greatest: words::payload_of(words::KIND_GREATEST, greatest),
-    }
-}
-
 // Pair k as it is written, after so many words of needs.
 fn three_at(words: &[u32], needs: usize, k: usize) -> Pair
     requires { ⌜ (needs ≡ needWords (now words)) × ((needs < 2 ^ registerBits) × PairIn (now words) k) ⌝ }
     ensures { λ r. ⌜ IsWritten (now (words .entry)) k r ⌝ }
 {
     let first = pair_place(needs, k);
-    known_pair(words[first], words[first + 1], words[first + 2])
+    pair_of(words[first], words[first + 1], words[first + 2])
 }
 
 // Pair k as it is written, from its three words.
@@ -298,10 +285,10 @@ fn pair_from(words: &[u32], k: usize) -> Pair
     requires { ⌜ PairIn (now words) k ⌝ }
     ensures { λ r. ⌜ IsWritten (now (words .entry)) k r ⌝ }
 {
-    if words[1] < FIRST_NEEDS {
-        return three_at(words, 0, k);
+    if words[1] >= FIRST_NEEDS {
+        return three_at(words, words::head_registers(words[0]) as usize, k);
     }
-    three_at(words, words::head_registers(words[0]) as usize, k)
+    three_at(words, 0, k)
 }
 
 // m, the count of pairs.
@@ -417,10 +404,10 @@ fn count_needs(words: &[u32], k: usize, p: Pair) -> Pair
     requires { ⌜ PairIn (now words) k × WrittenIn (registers (now words)) (holdAt (now words) (p .capture)) p ⌝ }
     ensures { λ r. ⌜ r ≡ countingNeeds (now (words .entry)) p ⌝ }
 {
-    if words[1] < FIRST_NEEDS {
-        return p;
+    if words[1] >= FIRST_NEEDS {
+        return with_needs(p, need_at(words, p.capture));
     }
-    with_needs(p, need_at(words, p.capture))
+    p
 }
 
 // Pair k of an accepted list, with the needs of its capture register counted in.

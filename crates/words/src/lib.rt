@@ -55,14 +55,6 @@ pub fn payload(w: u32) -> u32
     w % KIND
 }
 
-// The payload of a word whose kind is known: a difference, which is cheaper beside a sum than a remainder.
-pub fn payload_of(kind: u32, w: u32) -> u32
-    requires { ⌜ kindOf w ≡ kind ⌝ }
-    ensures { λ r. ⌜ r ≡ payloadOf w ⌝ }
-{
-    w - kind * KIND
-}
-
 // The head's count of pairs.
 pub fn head_pairs(w: u32) -> u32
     ensures { λ r. ⌜ r ≡ headPairs w ⌝ }

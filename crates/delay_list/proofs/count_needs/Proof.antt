@@ -13,17 +13,12 @@ shared-slice-read-if1 c =
     let s = c .before .before in
     omega (arith, accepted-in (s .args .words .now) (s .pre .0 .accepted) .head .size)
 
-returns : tie.Need-returns
-returns c =
-    let s = c .before .before .before in
-    counting-none (s .args .words .now) (s .args .p) (none-below (s .args .words .now) (c .if1 .taken))
-
 need-at-requires : tie.Need-need-at-requires
 need-at-requires c κs =
     let s = c .before .before .before in
     let ws = s .args .words .now in
     let v = s .pre .1 .values in
-    let all = needs-from ws (s .args .k) (s .pre .0) (c .if1 .left) in
+    let all = needs-from ws (s .args .k) (s .pre .0) (c .if1 .taken) in
     omega (arith, accepted-in ws (s .pre .0 .accepted) .head .size, v .launch, v .capture, all)
 
 with-needs-requires : tie.Need-with-needs-requires
@@ -31,21 +26,26 @@ with-needs-requires c κs =
     let s = c .before .before .before .before in
     let ws = s .args .words .now in
     let w = s .pre .1 in
-    let all = needs-from ws (s .args .k) (s .pre .0) (c .before .if1 .left) in
+    let all = needs-from ws (s .args .k) (s .pre .0) (c .before .if1 .taken) in
     let below : s .args .p .capture < needWords ws = omega (arith, w .values .capture, all) in
     let same = hold-at ws below in
     (rw (c .need-at .ensures) (omega (arith, same, w .holds)), (w .values .order, w .values .limit))
 
-returns-2 : tie.Need-returns-2
-returns-2 c =
+returns : tie.Need-returns
+returns c =
     let s = c .before .before .before .before .before in
     let ws = s .args .words .now in
-    let all = needs-from ws (s .args .k) (s .pre .0) (c .before .before .if1 .left) in
+    let all = needs-from ws (s .args .k) (s .pre .0) (c .before .before .if1 .taken) in
     let below : s .args .p .capture < needWords ws = omega (arith, s .pre .1 .values .capture, all) in
     rw (c .with-needs .ensures, c .before .need-at .ensures) (counting-at ws (s .args .p) below)
+
+returns-2 : tie.Need-returns-2
+returns-2 c =
+    let s = c .before .before .before in
+    counting-none (s .args .words .now) (s .args .p) (none-below (s .args .words .now) (c .if1 .left))
 
 pub count-needs-spec : {M : Type 1} → statement M
 count-needs-spec =
     tie.close
     (tie.spec
-    shared-slice-read-if1 returns need-at-requires with-needs-requires returns-2)
+    shared-slice-read-if1 need-at-requires with-needs-requires returns returns-2)

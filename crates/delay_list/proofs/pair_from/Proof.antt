@@ -12,25 +12,25 @@ shared-slice-read-if1 c =
     let s = c .before .before in
     omega (arith, stands (s .args .words .now) (s .args .k) (s .pre))
 
-three-at-requires : tie.Need-three-at-requires
-three-at-requires c κs =
-    let s = c .before .before .before in
-    (sym (none-below (s .args .words .now) (c .if1 .taken)), (omega arith, s .pre))
-
 shared-slice-read-head-registers : tie.Need-shared-slice-read-head-registers
 shared-slice-read-head-registers c =
     let s = c .before .before .before .before in
     omega (arith, stands (s .args .words .now) (s .args .k) (s .pre))
 
+three-at-requires : tie.Need-three-at-requires
+three-at-requires c κs =
+    let s = c .before .before .before .before .before in
+    let all = needs-from (s .args .words .now) (s .args .k) (s .pre) (c .before .before .if1 .taken) in
+    (omega (arith, all, c .head-registers .ensures), (omega (arith, c .head-registers .ensures), s .pre))
+
 three-at-requires-2 : tie.Need-three-at-requires-2
 three-at-requires-2 c κs =
-    let s = c .before .before .before .before .before in
-    let all = needs-from (s .args .words .now) (s .args .k) (s .pre) (c .before .before .if1 .left) in
-    (omega (arith, all, c .head-registers .ensures), (omega (arith, c .head-registers .ensures), s .pre))
+    let s = c .before .before .before in
+    (sym (none-below (s .args .words .now) (c .if1 .left)), (omega arith, s .pre))
 
 pub pair-from-spec : {M : Type 1} → statement M
 pair-from-spec =
     tie.close
     (tie.spec
-    shared-slice-read-if1 three-at-requires (λ c. search needs) shared-slice-read-head-registers (λ c κs. search needs)
+    shared-slice-read-if1 shared-slice-read-head-registers (λ c κs. search needs) (λ c. search needs) three-at-requires
     (λ c. search needs) three-at-requires-2 (λ c. search needs))
