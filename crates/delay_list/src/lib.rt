@@ -9,7 +9,7 @@ ghost use lib.ListN.{length};
 ghost use Rattle.words.specs.Word.{countBits, registerBits, holdOf, setupOf};
 ghost use Rattle.timing.specs.Limits.{maxDelay};
 ghost use Rattle.refusals.specs.Checks.{firstFault, faultAfter};
-ghost use Rattle.list_format.specs.Lists.{word, registers, pairCount, needWordsBy, needWords, holdAt, setupAt, needsOf, placeBy, pairPlace, placeOf, pairOf};
+ghost use Rattle.list_format.specs.Lists.{word, registers, pairCount, needWordsBy, needWords, holdAt, setupAt, needsOf, placeBy, pairPlace, placeOf, stepOf, pairOf};
 ghost use Rattle.list_format.specs.Lists.{counting, countingNeeds, noNeeds, IsAccepted, PairIn, WrittenIn, IsWritten, IsPair, verdict as verdictOf};
 ghost use Rattle.list_format.specs.Lists.{headChecks, needChecks, blockChecks, kindChecks, valueChecks, pairChecks, endChecks, pairsChecks, bodyChecks};
 ghost use Rattle.list_format.specs.Walk.{nextAt, placeAfter};
@@ -416,6 +416,24 @@ pub fn pair_at(words: &[u32], k: usize) -> Pair
     ensures { λ r. ⌜ IsPair (now (words .entry)) k r ⌝ }
 {
     count_needs(words, k, written_at(words, k))
+}
+
+// Where a walk over m pairs begins.
+pub fn walk_start(m: usize, down: bool) -> usize
+    ensures { λ r. ⌜ (0 < m → r ≡ placeOf m down 0) ⌝ }
+{
+    if down {
+        std::num::wrapping_sub_usize(m, 1)
+    } else {
+        0
+    }
+}
+
+// What takes a walk from place to place, by a sum that wraps.
+pub fn walk_step(down: bool) -> usize
+    ensures { λ r. ⌜ r ≡ stepOf down ⌝ }
+{
+    if down { 0xFFFF_FFFF_FFFF_FFFF } else { 1 }
 }
 
 // The i-th pair of a walk over m pairs: up the list, or from its end if down.

@@ -76,12 +76,14 @@ pub fn round(
     requires { ⌜ Raising (now words) count period (now x) ⌝ }
     ensures { λ u. ⌜ RoundTo maxTiming (constraints period (pairs (now (words .entry)))) (now (x .entry)) (now (x .exit)) ⌝ }
 {
+    let step = delay_list::walk_step(down);
     let mut last = x.len();
+    let mut k = delay_list::walk_start(count, down);
     let mut i = 0;
     while i < count {
-        let k = delay_list::place(count, i, down);
         let p = delay_list::pair_at(words, k);
         last = relax(x, parents, p, period, k, last);
+        k = std::num::wrapping_add_usize(k, step);
         i += 1;
     }
     last

@@ -1,5 +1,5 @@
 -- What it means for a list to be accepted, fact by fact, and what follows for its pairs.
-use Prim.Native.Nat.{ℕ, zero, suc, _+_, _*_, _-_, _^_, _<_, _≤_}
+use Prim.Native.Nat.{ℕ, zero, suc, _+_, _*_, _-_, _%_, _^_, _<_, _≤_}
 use mathlib.Core.Bool.{Bool, true, false, not, cond, _&&_}
 use mathlib.Core.List.{List, [], _∷_, _++_}
 use mathlib.Core.Logic.{_⊎_, inl, inr}
@@ -20,7 +20,7 @@ use Rattle.refusals.specs.declared.Fault.the-variants.{None, At}
 use Rattle.refusals.proofs.CheckLaws.{stop-first, pass-first, both-pass, pass-both, passed, passes, each-of, all-of}
 use Rattle.refusals.proofs.ReplyLaws.{numbers-none}
 use Rattle.list_format.specs.Lists.{word, registers, pairCount, needWordsBy, needWords, holdAt, setupAt, needsOf, placeBy, pairPlace, writtenAt}
-use Rattle.list_format.specs.Lists.{countingNeeds, pairAt, pairsFrom, pairs, placeOf, noNeeds}
+use Rattle.list_format.specs.Lists.{countingNeeds, pairAt, pairsFrom, pairs, placeOf, stepOf, noNeeds}
 use Rattle.list_format.specs.Lists.{differ, headChecks, needChecks, blockChecks, kindChecks, valueChecks, pairChecks, endChecks, pairsChecks}
 use Rattle.list_format.specs.Lists.{bodyChecks, listChecks}
 use Rattle.list_format.specs.Lists.{judged, verdict, NeedsIn, ValuesIn, WrittenIn, IsAccepted, AcceptedList, PairIn, IsWritten, IsPair}
@@ -372,3 +372,12 @@ each-place P m false h k l = h k l
 each-place P m true h k l =
     let back : m - 1 - (m - 1 - k) ≡ k = omega arith in
     rw back at (h (m - 1 - k) (omega arith))
+
+-- a walk stays among the pairs, and goes from place to place by its step
+pub place-below : (m : ℕ) (down : Bool) {i : ℕ} → i < m → placeOf m down i < m
+place-below m true h = omega arith
+place-below m false h = h
+
+pub place-next : (m : ℕ) (down : Bool) (i : ℕ) → m < 2 ^ 64 → i + 1 < m → (placeOf m down i + stepOf down) % 2 ^ 64 ≡ placeOf m down (i + 1)
+place-next m true i f h = omega arith
+place-next m false i f h = omega arith

@@ -1,7 +1,7 @@
 -- A delay list is a run of 32-bit words: head, then a word of needs for each register or none at all, then three words for each pair, then
 -- the end word.
 -- This file says where a pair stands, which run of words is refused and why, and what an accepted one says.
-use Prim.Native.Nat.{ℕ, zero, suc, _+_, _-_, _*_, _<_, _≤_}
+use Prim.Native.Nat.{ℕ, zero, suc, _+_, _-_, _*_, _^_, _<_, _≤_}
 use mathlib.Core.Bool.{Bool, true, not, cond, _&&_}
 use mathlib.Core.List.{List, [], _∷_, _++_}
 use mathlib.Core.Path.{_≡_}
@@ -91,6 +91,10 @@ pairs ws = pairsFrom ws 0 (pairCount ws)
 -- the i-th pair of a walk over m pairs: up the list, or from its end if down
 abbrev pub placeOf : ℕ → Bool → ℕ → ℕ
 placeOf m down i = cond down (m - 1 - i) i
+
+-- what is added, in 64 bits, from one place to the next
+abbrev pub stepOf : Bool → ℕ
+stepOf down = cond down (2 ^ 64 - 1) 1
 
 -- ---- the checks, in order
 
