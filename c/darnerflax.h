@@ -23,7 +23,7 @@
  * 1,000,000, needs up to 9,999, periods and offsets up to 1,009,999, timings up to 516,109,489.
  *
  * Each register has a hold and a setup need, both 0 in a list without a block of needs. The rules of a pair from launch
- * register a to capture register b, whose ticks come at the timings S(a) and S(b), at the period T:
+ * register a to capture register b, with the timings S(a) and S(b), at the period T:
  *   setup   S(a) + greatest + setup(b) <= S(b) + T
  *   hold    S(b) + hold(b) <= S(a) + least
  * The common period is the largest greatest + setup(b), at least 1: with all timings 0 it meets both rules.
