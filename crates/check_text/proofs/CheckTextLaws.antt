@@ -13,7 +13,7 @@ use Rattle.timing.specs.declared.Pair.{Pair}
 use Rattle.refusals.specs.Reply.{numbers, done, replyOf, told}
 use Rattle.refusals.proofs.ReplyLaws.{numbers-done, told-refusal, told-numbers}
 use Rattle.list_format.specs.Lists.{registers, pairCount, PairIn, IsPair}
-use Rattle.list_format.proofs.ListLaws.{none→accepted, list-pass, numbers-in}
+use Rattle.list_format.proofs.ListLaws.{numbers-in, list-usable}
 use Rattle.checker.specs.Check.{firstBroken, found, timingChecks, checkChecks, checking, ruleNumber, checkReply, CheckedAs}
 use Rattle.checker.specs.declared.Rule.{Rule}
 use Rattle.checker.specs.declared.Checking.{Checking}
@@ -91,7 +91,7 @@ module _ {ws s : List ℕ} {t : ℕ} {r : Checking} (a : CheckedAs ws t s r) whe
         let is : checking ws t s ≡ done (found ws t s) [] = numbers-done (checkChecks ws t s) _ (broken-told ∙ a .reply) in
         let told : numbers (k ∷ ruleNumber rule ∷ []) ≡ numbers (found ws t s) = rw is at (broken-told ∙ a .reply) in
         record {
-          accepted = none→accepted ws (list-pass ws (numbers-in ws (timingChecks (registers ws) t s) _ (broken-told ∙ a .reply)));
+          usable = list-usable ws (numbers-in ws (timingChecks (registers ws) t s) _ (broken-told ∙ a .reply));
           below = found-below ws s t {rule = ruleNumber rule} cc;
         }
 

@@ -23,10 +23,11 @@ use Rattle.refusals.proofs.ReplyLaws.{answered-refused, answered-done}
 use Rattle.refusals.specs.Reply.{numbers, refused, done, replyOf}
 use Rattle.refusals.specs.declared.Fault.{Fault}
 use Rattle.refusals.specs.declared.Fault.the-variants.{None, At}
-use Rattle.list_format.specs.Lists.{registers, pairCount, pairAt, pairs, listChecks, verdict, IsAccepted, IsPair, AcceptedList}
+use Rattle.list_format.specs.Lists.{registers, pairCount, pairAt, pairs, listChecks, verdict, IsAccepted, IsPair, UsableList}
 use Rattle.list_format.specs.declared.Verdict.the-variants as Verdict
 use Rattle.list_format.specs.declared.Verdict.the-variants.{Accepted}
-use Rattle.list_format.proofs.ListLaws.{refused→fault, accepted→none, none→accepted, same, no-difference, each-pair, pair-holds, still-accepted}
+use Rattle.list_format.proofs.ListLaws.{refused→fault, accepted→none, none→accepted, same, no-difference, each-pair, pair-holds}
+use Rattle.list_format.proofs.ListLaws.{usable-list, still-usable}
 use Rattle.checker.specs.Check.{setupAt, holdAt, metAt, firstBroken, brokenRule, found, ruleNumber}
 use Rattle.checker.specs.Check.{someAbove, timingChecks, checkChecks, checking, checkReply, CheckedAs, Passes}
 use Rattle.checker.specs.declared.Rule.{Rule}
@@ -120,7 +121,7 @@ module _ (ws : List ℕ) (t : ℕ) (s : List ℕ) where
 
 -- ---- the answer for an accepted list
 
-module _ (t : ℕ) (s : List ℕ) {ws : List ℕ} {n count k : ℕ} (list : AcceptedList ws n count) (first : k ≡ firstBroken ws t s) where
+module _ (t : ℕ) (s : List ℕ) {ws : List ℕ} {n count k : ℕ} (list : UsableList ws n count) (first : k ≡ firstBroken ws t s) where
   pub found-broken : k < count → (rule : Rule) → ruleNumber rule ≡ brokenRule ws t s k → checkReply (Broken k rule) ≡ numbers (found ws t s)
   unfolding found checkReply
   found-broken h rule e = rw (e, first, lt-ltb (firstBroken ws t s) (pairCount ws) (omega (arith, list .pairsAre)))
@@ -190,11 +191,11 @@ module _ (ws : List ℕ) (t : ℕ) (s : List ℕ) where
     by-call h = refuses (call-decides ∙ h) (answered-refused (checkChecks ws t s) _ (call-decides ∙ h))
 
     module _ (h : f ≡ None) where
-      pub call-ready : AcceptedList ws (length s) m
+      pub call-ready : UsableList ws (length s) m
       call-ready =
           let c = passed (timingChecks n t s) (sym call ∙ h) in
           let a = accepted→none ws e in
-          still-accepted (same _ _ (c .1 .1 .0)) (a .list)
+          still-usable (same _ _ (c .1 .1 .0)) (usable-list ws (a .list))
 
       pub by-pairs : {r : Checking} → checkReply r ≡ numbers (found ws t s) → CheckedAs ws t s r
       unfolding checking replyOf checkReply

@@ -5,7 +5,7 @@ ghost use lib.ListN.{length};
 ghost use Rattle.timing.specs.Rules.{admissible};
 ghost use Rattle.refusals.specs.Checks.{firstFault};
 ghost use Rattle.refusals.specs.Reply.{numbers};
-ghost use Rattle.list_format.specs.Lists.{registers, pairs, PairIn, AcceptedList};
+ghost use Rattle.list_format.specs.Lists.{registers, pairs, PairIn, UsableList};
 ghost use Rattle.checker.specs.Check.{metAt, firstBroken, brokenRule, found, someAbove, timingChecks, ruleNumber, checkReply, CheckedAs};
 use list_format::Verdict;
 use refusals::Fault;
@@ -40,7 +40,7 @@ fn meets(words: &[u32], k: usize, period: u32, timings: &[u32]) -> bool
 
 // The first pair that does not; their count if each does.
 fn first_broken(words: &[u32], count: usize, period: u32, timings: &[u32]) -> usize
-    requires { ⌜ AcceptedList (now words) (length (now timings)) count ⌝ }
+    requires { ⌜ UsableList (now words) (length (now timings)) count ⌝ }
     ensures { λ r. ⌜ r ≡ firstBroken (now (words .entry)) period (now (timings .entry)) ⌝ }
 {
     let mut k = 0;
@@ -50,9 +50,9 @@ fn first_broken(words: &[u32], count: usize, period: u32, timings: &[u32]) -> us
     k
 }
 
-// Whether each pair of an accepted list meets both rules.
+// Whether each pair of a list meets both rules.
 pub fn passes(words: &[u32], count: usize, period: u32, timings: &[u32]) -> bool
-    requires { ⌜ AcceptedList (now words) (length (now timings)) count ⌝ }
+    requires { ⌜ UsableList (now words) (length (now timings)) count ⌝ }
     ensures { λ r. ⌜ r ≡ admissible period (pairs (now (words .entry))) (now (timings .entry)) ⌝ }
 {
     first_broken(words, count, period, timings) == count
@@ -75,7 +75,7 @@ fn broken_rule(words: &[u32], k: usize, period: u32, timings: &[u32]) -> Rule
 
 // The answer for an accepted list.
 fn checked(words: &[u32], count: usize, period: u32, timings: &[u32]) -> Checking
-    requires { ⌜ AcceptedList (now words) (length (now timings)) count ⌝ }
+    requires { ⌜ UsableList (now words) (length (now timings)) count ⌝ }
     ensures { λ r. ⌜ checkReply r ≡ numbers (found (now (words .entry)) period (now (timings .entry))) ⌝ }
 {
     let k = first_broken(words, count, period, timings);

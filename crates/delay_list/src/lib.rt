@@ -7,10 +7,11 @@ ghost use Prim.Native.Nat.{_+_, _-_, _*_, _^_, _<_, _≤_};
 ghost use lib.Dec.{ltb};
 ghost use lib.ListN.{length};
 ghost use Rattle.words.specs.Word.{countBits, registerBits, holdOf, setupOf};
-ghost use Rattle.timing.specs.Limits.{maxDelay};
+ghost use Rattle.timing.specs.Limits.{maxPeriod};
 ghost use Rattle.refusals.specs.Checks.{firstFault, faultAfter};
-ghost use Rattle.list_format.specs.Lists.{word, registers, pairCount, needWordsBy, needWords, holdAt, setupAt, needsOf, placeBy, pairPlace, placeOf, stepOf, pairOf};
-ghost use Rattle.list_format.specs.Lists.{counting, countingNeeds, noNeeds, IsAccepted, PairIn, WrittenIn, IsWritten, IsPair, verdict as verdictOf};
+ghost use Rattle.list_format.specs.Lists.{word, registers, pairCount, needWordsBy, needWords, holdAt, setupAt, needsOf, placeBy, pairPlace};
+ghost use Rattle.list_format.specs.Lists.{placeOf, stepOf, pairOf, counting, countingNeeds, noNeeds};
+ghost use Rattle.list_format.specs.Lists.{IsAccepted, PairIn, IsWritten, IsPair, verdict as verdictOf};
 ghost use Rattle.list_format.specs.Lists.{headChecks, needChecks, blockChecks, kindChecks, valueChecks, pairChecks, endChecks, pairsChecks, bodyChecks};
 ghost use Rattle.list_format.specs.Walk.{nextAt, placeAfter};
 use list_format::Next;
@@ -370,7 +371,7 @@ impl<'a> Reader<'a> {
     }
 }
 
-// Pair k of an accepted list as it is written, from a reader that has come to it.
+// Pair k as it is written, from a reader that has come to it.
 fn written_at(words: &[u32], k: usize) -> Pair
     requires { ⌜ PairIn (now words) k ⌝ }
     ensures { λ r. ⌜ IsWritten (now (words .entry)) k r ⌝ }
@@ -388,7 +389,7 @@ fn need_at(words: &[u32], r: u32) -> u32
 
 // A pair with a word of needs counted in.
 fn with_needs(p: Pair, need: u32) -> Pair
-    requires { ⌜ (holdOf need ≤ p .least) × ((p .least ≤ p .greatest) × (p .greatest ≤ maxDelay)) ⌝ }
+    requires { ⌜ (holdOf need ≤ p .least) × (p .greatest + setupOf need ≤ maxPeriod) ⌝ }
     ensures { λ r. ⌜ r ≡ counting (holdOf need) (setupOf need) p ⌝ }
 {
     Pair {
@@ -399,9 +400,9 @@ fn with_needs(p: Pair, need: u32) -> Pair
     }
 }
 
-// Pair k of an accepted list with the needs of its capture register counted in.
+// A pair of a list with the needs of its capture register counted in.
 fn count_needs(words: &[u32], k: usize, p: Pair) -> Pair
-    requires { ⌜ PairIn (now words) k × WrittenIn (registers (now words)) (holdAt (now words) (p .capture)) p ⌝ }
+    requires { ⌜ PairIn (now words) k × IsWritten (now words) k p ⌝ }
     ensures { λ r. ⌜ r ≡ countingNeeds (now (words .entry)) p ⌝ }
 {
     if words[1] >= FIRST_NEEDS {
@@ -410,7 +411,7 @@ fn count_needs(words: &[u32], k: usize, p: Pair) -> Pair
     p
 }
 
-// Pair k of an accepted list, with the needs of its capture register counted in.
+// Pair k with the needs of its capture register counted in.
 pub fn pair_at(words: &[u32], k: usize) -> Pair
     requires { ⌜ PairIn (now words) k ⌝ }
     ensures { λ r. ⌜ IsPair (now (words .entry)) k r ⌝ }

@@ -3,7 +3,7 @@
 ghost use mathlib.Core.Path.{_≡_};
 ghost use lib.ListN.{length};
 ghost use Rattle.timing.specs.Limits.{maxTiming};
-ghost use Rattle.list_format.specs.Lists.{pairCount, pairs, IsAccepted, AcceptedList};
+ghost use Rattle.list_format.specs.Lists.{pairCount, pairs, IsUsable, UsableList};
 ghost use Rattle.free_laws.specs.Constraint.{constraints, Bound};
 ghost use Rattle.free_laws.specs.Raise.{Risen};
 ghost use Rattle.free_rounds.specs.Raise.{Raising};
@@ -13,7 +13,7 @@ use timing::larger;
 
 // The register that a rule starts from, or r where the list has no such rule.
 fn source(words: &[u32], count: usize, rule: u16, r: usize) -> usize
-    requires { ⌜ IsAccepted (now words) ⌝ }
+    requires { ⌜ IsUsable (now words) ⌝ }
     requires { ⌜ count ≡ pairCount (now words) ⌝ }
 {
     let k = (rule / 2) as usize;
@@ -29,7 +29,7 @@ fn source(words: &[u32], count: usize, rule: u16, r: usize) -> usize
 
 // The register that the parent of r starts from; r itself if it has none.
 pub fn above(words: &[u32], count: usize, parents: &[u16; PARENTS], r: usize) -> usize
-    requires { ⌜ IsAccepted (now words) ⌝ }
+    requires { ⌜ IsUsable (now words) ⌝ }
     requires { ⌜ count ≡ pairCount (now words) ⌝ }
 {
     source(words, count, parents[r % PARENTS], r)
@@ -52,7 +52,7 @@ fn stack_up(
     marks: &mut [u16; PARENTS],
     stack: &mut [u16; PARENTS],
 ) -> Way
-    requires { ⌜ IsAccepted (now words) ⌝ }
+    requires { ⌜ IsUsable (now words) ⌝ }
     requires { ⌜ count ≡ pairCount (now words) ⌝ }
 {
     let mut height = 0;
@@ -82,7 +82,7 @@ fn closed(
     mark: u16,
     marks: &[u16; PARENTS],
 ) -> u32
-    requires { ⌜ AcceptedList (now words) n count ⌝ }
+    requires { ⌜ UsableList (now words) n count ⌝ }
     ensures { λ u. ⌜ Bound (pairs (now (words .entry))) u ⌝ }
 {
     let to = way.to;

@@ -6,7 +6,7 @@ use native.Mathlib.Nat.{sub-zero}
 use native.Mathlib.Omega.{arith}
 use lib.ListN.{length}
 use Rattle.timing.specs.declared.Pair.{Pair}
-use Rattle.list_format.specs.Lists.{registers, pairCount, pairAt, pairsFrom, pairs, IsPair, AcceptedList}
+use Rattle.list_format.specs.Lists.{registers, pairCount, pairAt, pairsFrom, pairs, IsPair, UsableList}
 use Rattle.list_format.proofs.ListLaws.{pairs-in-range}
 use Rattle.free_laws.specs.Free.{common}
 use Rattle.free_laws.proofs.FreeLaws.{common-pos}
@@ -83,10 +83,10 @@ pub climbing-after : {ws : List ℕ} {count t next : ℕ} {x y : List ℕ} → T
     → Sought ws t y next → Climbing ws t y next
 climbing-after p e s = record { size = e ∙ p .list .registersAre; pos = p .pos; bound = p .bound; sought = s }
 
-module _ {ws : List ℕ} {n count : ℕ} (r : AcceptedList ws n count) where
+module _ {ws : List ℕ} {n count : ℕ} (r : UsableList ws n count) where
   -- a trial of u, with other times
   pub trial-of : {u : ℕ} {x : List ℕ} → length x ≡ registers ws → 1 ≤ u → Bound (pairs ws) u → Trial ws count u x
-  trial-of e pos b = record { list = record { accepted = r .accepted; registersAre = e; pairsAre = r .pairsAre }; pos = pos; bound = b }
+  trial-of e pos b = record { list = record { usable = r .usable; registersAre = e; pairsAre = r .pairsAre }; pos = pos; bound = b }
 
   module _ {t next : ℕ} {x : List ℕ} (c : Climbing ws t x next) where
     pub climbing-tries : t < next → Trial ws count next x
@@ -96,7 +96,7 @@ module _ {ws : List ℕ} {n count : ℕ} (r : AcceptedList ws n count) where
     pub climbing-end : t ≤ next → next ≤ t → Climbed ws x t
     climbing-end g h =
         let same : next ≡ t = omega arith in
-        let w = pairs-in-range ws (r .accepted) in
+        let w = pairs-in-range ws (r .usable) in
         let least = c .sought .tried g .shows same in
         record {
           period = bound-period (registers ws) (pairs ws) w (c .pos) (c .bound) least;

@@ -4,7 +4,7 @@
 ghost use mathlib.Core.Path.{_≡_};
 ghost use Prim.Native.Nat.{_-_, _≤_, _<_, max};
 ghost use lib.ListN.{length};
-ghost use Rattle.list_format.specs.Lists.{pairCount, pairs, IsAccepted, AcceptedList};
+ghost use Rattle.list_format.specs.Lists.{pairCount, pairs, IsUsable, UsableList};
 ghost use Rattle.free_laws.specs.Free.{common as commonOf};
 ghost use Rattle.free_laws.specs.Constraint.{Bound};
 ghost use Rattle.free_trials.specs.Trial.{Trial, Sought};
@@ -30,7 +30,7 @@ fn alone(p: Pair) -> u32
 
 // The longest period that a pair alone asks for, or 1.
 fn lowest(words: &[u32], count: usize) -> u32
-    requires { ⌜ IsAccepted (now words) ⌝ }
+    requires { ⌜ IsUsable (now words) ⌝ }
     requires { ⌜ count ≡ pairCount (now words) ⌝ }
     ensures from { λ r. ⌜ 1 ≤ r ⌝ }
     ensures bound { λ r. ⌜ Bound (pairs (now (words .entry))) r ⌝ }
@@ -47,7 +47,7 @@ fn lowest(words: &[u32], count: usize) -> u32
 
 // The common period: the largest greatest delay, or 1.
 pub fn common(words: &[u32], count: usize) -> u32
-    requires { ⌜ IsAccepted (now words) ⌝ }
+    requires { ⌜ IsUsable (now words) ⌝ }
     requires { ⌜ count ≡ pairCount (now words) ⌝ }
     ensures { λ r. ⌜ r ≡ commonOf (pairs (now (words .entry))) ⌝ }
 {
@@ -331,7 +331,7 @@ pub fn climb(
     lasts: &[u16; REGISTERS],
     before: &[u16],
 ) -> u32
-    requires { ⌜ AcceptedList (now words) (length (now x)) count ⌝ }
+    requires { ⌜ UsableList (now words) (length (now x)) count ⌝ }
     ensures { λ r. ⌜ Climbed (now (words .entry)) (now (x .exit)) r ⌝ }
 {
     let mut parents = [NO_RULE; REGISTERS];

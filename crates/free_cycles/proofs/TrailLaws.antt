@@ -7,7 +7,7 @@ use mathlib.Core.Path.{_≡_, refl}
 use native.Mathlib.Omega.{arith}
 use Rattle.timing.specs.declared.Pair.{Pair}
 use Rattle.timing.specs.Limits.{maxRegisters}
-use Rattle.list_format.specs.Lists.{registers, PairIn, IsPair, AcceptedList}
+use Rattle.list_format.specs.Lists.{registers, PairIn, IsPair, UsableList}
 use Rattle.list_format.proofs.ListLaws.{few-registers, pair-in}
 use Rattle.free_laws.proofs.Cycle.{adds-none, adds-setup, adds-hold}
 use Rattle.free_rounds.proofs.RoundLaws.{rules-at}
@@ -27,7 +27,7 @@ trail-start h (s, a, k, g, l, u) =
       adds = rw (a, s, g, l, u) adds-none;
     }
 
-module _ {ws : List ℕ} {count n : ℕ} {w : Trail} (r : AcceptedList ws n count) (s : Traced ws n w) (more : w .steps < n) where
+module _ {ws : List ℕ} {count n : ℕ} {w : Trail} (r : UsableList ws n count) (s : Traced ws n w) (more : w .steps < n) where
   -- a register has a place among the parents
   pub at-parent : w .at < maxRegisters
   at-parent = omega (arith, few-registers ws r, s .inside, r .registersAre)

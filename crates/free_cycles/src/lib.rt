@@ -3,7 +3,7 @@
 ghost use mathlib.Core.Path.{_≡_};
 ghost use Prim.Native.Nat.{ℕ, _+_, _*_, _≤_, _<_};
 ghost use Rattle.timing.specs.Limits.{maxPeriod};
-ghost use Rattle.list_format.specs.Lists.{registers, pairs, AcceptedList};
+ghost use Rattle.list_format.specs.Lists.{registers, pairs, UsableList};
 ghost use Rattle.free_laws.specs.Constraint.{Bound};
 ghost use Rattle.free_cycles.specs.Tracing.{Traced, Further};
 use free_rounds::PARENTS;
@@ -38,7 +38,7 @@ impl Trail {
 // One step back, along rule 2k, setup of pair k, or 2k + 1, its hold. What is no rule into the register where the trail
 // stands ends it.
 fn along(words: &[u32], count: usize, n: usize, rule: u16, w: Trail) -> Trail
-    requires { ⌜ AcceptedList (now words) n count ⌝ }
+    requires { ⌜ UsableList (now words) n count ⌝ }
     requires { ⌜ Traced (now words) n w ⌝ }
     requires { ⌜ w .steps < n ⌝ }
     ensures { λ r. ⌜ Further (now (words .entry)) n w r ⌝ }
@@ -68,7 +68,7 @@ fn along(words: &[u32], count: usize, n: usize, rule: u16, w: Trail) -> Trail
 
 // One step back, along the rule that raised the register last.
 fn back(words: &[u32], count: usize, n: usize, parents: &[u16; PARENTS], w: Trail) -> Trail
-    requires { ⌜ AcceptedList (now words) n count ⌝ }
+    requires { ⌜ UsableList (now words) n count ⌝ }
     requires { ⌜ Traced (now words) n w ⌝ }
     requires { ⌜ w .steps < n ⌝ }
     ensures { λ r. ⌜ Further (now (words .entry)) n w r ⌝ }
@@ -79,7 +79,7 @@ fn back(words: &[u32], count: usize, n: usize, parents: &[u16; PARENTS], w: Trai
 
 // Where n steps back lead from a register.
 fn origin(words: &[u32], count: usize, n: usize, parents: &[u16; PARENTS], last: u32) -> u32
-    requires { ⌜ AcceptedList (now words) n count ⌝ }
+    requires { ⌜ UsableList (now words) n count ⌝ }
     requires { ⌜ last < registers (now words) ⌝ }
     ensures { λ r. ⌜ r < registers (now (words .entry)) ⌝ }
 {
@@ -105,7 +105,7 @@ fn needed(w: Trail) -> u32
 
 // The period that the cycle of parents through a register asks for; 0 if it is on none.
 pub fn around(words: &[u32], count: usize, n: usize, parents: &[u16; PARENTS], start: u32) -> u32
-    requires { ⌜ AcceptedList (now words) n count ⌝ }
+    requires { ⌜ UsableList (now words) n count ⌝ }
     requires { ⌜ start < registers (now words) ⌝ }
     ensures { λ r. ⌜ Bound (pairs (now (words .entry))) r ⌝ }
 {
@@ -118,7 +118,7 @@ pub fn around(words: &[u32], count: usize, n: usize, parents: &[u16; PARENTS], s
 
 // A period below which there is no schedule, shown by the cycle of parents behind a register; 0 if there is none.
 pub fn cycle(words: &[u32], count: usize, n: usize, parents: &[u16; PARENTS], last: u32) -> u32
-    requires { ⌜ AcceptedList (now words) n count ⌝ }
+    requires { ⌜ UsableList (now words) n count ⌝ }
     requires { ⌜ last < registers (now words) ⌝ }
     ensures { λ r. ⌜ Bound (pairs (now (words .entry))) r ⌝ }
 {

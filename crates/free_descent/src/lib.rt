@@ -5,7 +5,7 @@
 ghost use mathlib.Core.Path.{_≡_};
 ghost use Prim.Native.Nat.{_≤_, _<_};
 ghost use lib.ListN.{length};
-ghost use Rattle.list_format.specs.Lists.{pairCount, pairs, IsAccepted, AcceptedList};
+ghost use Rattle.list_format.specs.Lists.{pairCount, pairs, IsUsable, UsableList};
 ghost use Rattle.free_laws.specs.Constraint.{Bound};
 use free_forest::ASIDE;
 use free_forest::Across;
@@ -127,7 +127,7 @@ fn first_key(greatest: u32, low: u32, k: usize) -> u32 {
 }
 
 fn first_keys(words: &[u32], count: usize, low: u32, key: &mut [u32; REGISTERS])
-    requires { ⌜ IsAccepted (now words) ⌝ }
+    requires { ⌜ IsUsable (now words) ⌝ }
     requires { ⌜ count ≡ pairCount (now words) ⌝ }
 {
     let mut k = 0;
@@ -192,7 +192,7 @@ fn worst_into(
     s: Span,
     r: usize,
 ) -> u32
-    requires { ⌜ AcceptedList (now words) (length (now x)) count ⌝ }
+    requires { ⌜ UsableList (now words) (length (now x)) count ⌝ }
 {
     let h = here_at(x, forest, r);
     let mut most = 0;
@@ -237,7 +237,7 @@ fn ask_from(
     s: Span,
     r: usize,
 )
-    requires { ⌜ AcceptedList (now words) (length (now x)) count ⌝ }
+    requires { ⌜ UsableList (now words) (length (now x)) count ⌝ }
 {
     let h = here_at(x, forest, r);
     let mut end = pair_ends::last_at(lasts, r);
@@ -262,7 +262,7 @@ fn ask_below(
     r: usize,
     last: usize,
 )
-    requires { ⌜ AcceptedList (now words) (length (now x)) count ⌝ }
+    requires { ⌜ UsableList (now words) (length (now x)) count ⌝ }
 {
     let mut q = r;
     let mut left = x.len();
@@ -289,7 +289,7 @@ fn meet_all(
     s: Span,
     r: usize,
 ) -> u32
-    requires { ⌜ AcceptedList (now words) (length (now x)) count ⌝ }
+    requires { ⌜ UsableList (now words) (length (now x)) count ⌝ }
 {
     let h = here_at(x, forest, r);
     let mut most = 0;
@@ -386,7 +386,7 @@ fn hang(
     d: Descent,
     l: Link,
 ) -> Descent
-    requires { ⌜ AcceptedList (now words) (length (now x)) count ⌝ }
+    requires { ⌜ UsableList (now words) (length (now x)) count ⌝ }
 {
     let mut next = d;
     let r = d.at;
@@ -477,7 +477,7 @@ fn turn(
     before: &[u16],
     d: Descent,
 ) -> Descent
-    requires { ⌜ AcceptedList (now words) (length (now x)) count ⌝ }
+    requires { ⌜ UsableList (now words) (length (now x)) count ⌝ }
 {
     let mut next = taken(d, key, tops, x.len());
     if next.over {
@@ -528,7 +528,7 @@ fn closed(
     notes: &[u16; NOTES],
     d: Descent,
 ) -> u32
-    requires { ⌜ AcceptedList (now words) n count ⌝ }
+    requires { ⌜ UsableList (now words) n count ⌝ }
     ensures { λ u. ⌜ Bound (pairs (now (words .entry))) u ⌝ }
 {
     let r = d.at;
@@ -564,7 +564,7 @@ pub fn descend(
     before: &[u16],
     low: u32,
 ) -> u32
-    requires { ⌜ AcceptedList (now words) (length (now x)) count ⌝ }
+    requires { ⌜ UsableList (now words) (length (now x)) count ⌝ }
     ensures { λ u. ⌜ Bound (pairs (now (words .entry))) u ⌝ }
 {
     let mut forest = [NOBODY; PLACES];

@@ -4,7 +4,7 @@
 ghost use mathlib.Core.Path.{_≡_};
 ghost use Prim.Native.Nat.{_<_};
 ghost use lib.ListN.{length};
-ghost use Rattle.list_format.specs.Lists.{pairCount, IsAccepted, AcceptedList};
+ghost use Rattle.list_format.specs.Lists.{pairCount, IsUsable, UsableList};
 use free_rounds::NO_RULE;
 use pair_ends::REGISTERS;
 use pair_ends::wide;
@@ -113,7 +113,7 @@ pub struct Link {
 
 // A rule by its number at the period `low`; where the list has none, one that is met.
 pub fn link_of(words: &[u32], count: usize, x: &[u32], rule: usize, low: u32) -> Link
-    requires { ⌜ AcceptedList (now words) (length (now x)) count ⌝ }
+    requires { ⌜ UsableList (now words) (length (now x)) count ⌝ }
 {
     let k = rule / 2;
     if k >= count {
@@ -158,7 +158,7 @@ pub struct Across {
 }
 
 pub fn across_at(words: &[u32], count: usize, x: &[u32], end: usize) -> Across
-    requires { ⌜ AcceptedList (now words) (length (now x)) count × (0 < end) ⌝ }
+    requires { ⌜ UsableList (now words) (length (now x)) count × (0 < end) ⌝ }
 {
     let k = (end - 1) / 2;
     let launch = end % 2 == 1;
@@ -311,7 +311,7 @@ pub fn move_branch(
     r: usize,
     by: Distance,
 ) -> usize
-    requires { ⌜ IsAccepted (now words) ⌝ }
+    requires { ⌜ IsUsable (now words) ⌝ }
     requires { ⌜ count ≡ pairCount (now words) ⌝ }
 {
     shift(x, forest, r, by);

@@ -14,7 +14,7 @@ use Rattle.timing.specs.declared.Pair.{Pair}
 use Rattle.timing.specs.Rules.{time, Each, InRange}
 use Rattle.timing.specs.Limits.{maxTiming}
 use Rattle.list_format.specs.Lists.{pairCount, pairAt, pairs, PairIn, IsPair, placeOf}
-use Rattle.list_format.proofs.ListLaws.{few-registers, few-pairs, pair-in, each-pair, pair-holds, each-place, still-accepted}
+use Rattle.list_format.proofs.ListLaws.{few-registers, few-pairs, pair-in, each-pair, pair-holds, each-place, still-usable}
 use Rattle.free_laws.proofs.ConstraintList as rule-list
 use Rattle.free_laws.specs.Constraint.{Constraint, Meets, setup, hold, constraints, Below}
 use Rattle.free_laws.specs.Raise.{ask, Attained, Capped, raiseTo, relaxTo, Risen, RoundTo}
@@ -110,7 +110,7 @@ pub raising-kept : {ws : List ℕ} {count t : ℕ} {rs : List Constraint} {x y :
     → Risen maxTiming rs x y → Raising ws count t y
 raising-kept r s =
     record {
-      list = still-accepted (s .size) (r .list);
+      list = still-usable (s .size) (r .list);
       capped = s .capped;
       period = r .period;
     }

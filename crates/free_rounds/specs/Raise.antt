@@ -3,7 +3,7 @@ use Prim.Native.Nat.{ℕ, _-_, _≤_, _<_}
 use mathlib.Core.Bool.{Bool, cond}
 use mathlib.Core.List.{List}
 use lib.ListN.{length}
-use Rattle.list_format.specs.Lists.{AcceptedList}
+use Rattle.list_format.specs.Lists.{UsableList}
 use Rattle.timing.specs.declared.Pair.{Pair}
 use Rattle.timing.specs.Rules.{InRange}
 use Rattle.timing.specs.Limits.{maxRegisters, maxPairs, maxPeriod, maxTiming}
@@ -25,6 +25,6 @@ pub record Relaxable (x : List ℕ) (p : Pair) (t k : ℕ) : Type 0 where
 
 -- an accepted list, with a schedule to be raised at period t
 pub record Raising (ws : List ℕ) (count t : ℕ) (x : List ℕ) : Type 0 where
-  pub list : AcceptedList ws (length x) count
+  pub list : UsableList ws (length x) count
   pub capped : Capped maxTiming x
   pub period : t ≤ maxPeriod

@@ -13,9 +13,9 @@ use Rattle.timing.specs.Rules.{Each, InRange}
 use Rattle.timing.specs.Limits.{maxPeriod, maxTiming}
 use Rattle.refusals.specs.Reply.{refused, done, replyOf, bufferAfter}
 use Rattle.refusals.proofs.ReplyLaws.{one-fails, one-passes, first-refused, then-refused, then-done}
-use Rattle.list_format.specs.Lists.{registers, pairs, listChecks, verdict, AcceptedList}
+use Rattle.list_format.specs.Lists.{registers, pairs, listChecks, verdict, IsAccepted, AcceptedList, UsableList}
 use Rattle.list_format.specs.declared.Verdict.the-variants as Verdict
-use Rattle.list_format.proofs.ListLaws.{refused→fault, accepted→none, pairs-in-range, pairs-within, few-registers, still-accepted}
+use Rattle.list_format.proofs.ListLaws.{refused→fault, accepted→none, pairs-in-range, pairs-within, few-registers, still-usable, usable-list}
 use Rattle.free_laws.specs.Free.{common, freePeriod, freeSchedule}
 use Rattle.free_laws.specs.Unbeaten.{UnbeatenFree}
 use Rattle.free_laws.proofs.FreeLaws.{common-limit, period-common, free-capped}
@@ -28,12 +28,12 @@ use Rattle.free_schedule.specs.declared.FreeAnswer.the-variants.{Periods
 
 -- ---- the free schedule, brought to a check at the free period
 
-module _ {ws : List ℕ} {n m : ℕ} (l : AcceptedList ws n m) where
+module _ {ws : List ℕ} {n m : ℕ} (l : UsableList ws n m) where
   inside : Each (InRange (registers ws)) (pairs ws)
-  inside = pairs-in-range ws (l .accepted)
+  inside = pairs-in-range ws (l .usable)
 
   steps : Each (λ p. p .greatest ≤ maxPeriod) (pairs ws)
-  steps = pairs-within ws (l .accepted)
+  steps = pairs-within ws (l .usable)
 
   unbeaten-free : UnbeatenFree (registers ws) (pairs ws) (freePeriod (registers ws) (pairs ws)) (freeSchedule (registers ws) (pairs ws))
   unbeaten-free = free-unbeaten (registers ws) (pairs ws) inside
@@ -42,9 +42,9 @@ module _ {ws : List ℕ} {n m : ℕ} (l : AcceptedList ws n m) where
   pub common-upto : common (pairs ws) ≤ maxPeriod
   common-upto = common-limit maxPeriod (omega arith) (pairs ws) steps
 
-  pub free-passes : Passes ws (freePeriod (registers ws) (pairs ws)) (freeSchedule (registers ws) (pairs ws))
-  free-passes =
-      admissible-passes ws _ _ (l .accepted) (unbeaten-free .fromOne)
+  pub free-passes : IsAccepted ws → Passes ws (freePeriod (registers ws) (pairs ws)) (freeSchedule (registers ws) (pairs ws))
+  free-passes a =
+      admissible-passes ws _ _ a (unbeaten-free .fromOne)
       (le-trans (period-common (registers ws) (pairs ws) inside) common-upto)
       (unbeaten-free .size)
       (free-capped (registers ws) (pairs ws) inside maxTiming maxPeriod steps (omega (arith, few-registers ws l, l .registersAre)))
@@ -57,8 +57,8 @@ module _ {ws : List ℕ} {n count : ℕ} {was : List ℕ} (r : Roomy ws n count 
   pub lent-size : n ≡ length (take n was)
   lent-size = sym (length-take-le n was (r .room))
 
-  pub lent-ready : AcceptedList ws (length (take n was)) count
-  lent-ready = still-accepted (sym lent-size) (r .list)
+  pub lent-ready : UsableList ws (length (take n was)) count
+  lent-ready = still-usable (sym lent-size) (r .list)
 
   -- what was lent comes back filled
   pub lent-back : {x : List ℕ} {t : ℕ} → Climbed ws x t → FreeIn ws was (x ++ drop n was) t
@@ -68,14 +68,14 @@ module _ {ws : List ℕ} {n count : ℕ} {was : List ℕ} (r : Roomy ws n count 
         places = rw (c .schedule, unbeaten-free (r .list) .size, r .list .registersAre);
       }
 
-  done-is : freeing ws (length was) ≡ done (common (pairs ws) ∷ freePeriod (registers ws) (pairs ws) ∷ []) (freeSchedule (registers ws) (pairs ws))
+  done-is : IsAccepted ws → freeing ws (length was) ≡ done (common (pairs ws) ∷ freePeriod (registers ws) (pairs ws) ∷ []) (freeSchedule (registers ws) (pairs ws))
   unfolding freeing
-  done-is =
+  done-is a =
       let room : registers ws ≤ length was = omega (arith, r .room, r .list .registersAre) in
-      then-done (listChecks ws) _ _ (accepted→none ws (r .list .accepted) .none) (one-passes 2 0 (le-ltb _ _ room))
+      then-done (listChecks ws) _ _ (accepted→none ws a .none) (one-passes 2 0 (le-ltb _ _ room))
 
   -- the answer, with a place for each register
-  module _ {common′ free : ℕ} {now : List ℕ} (c : common′ ≡ common (pairs ws)) (f : FreeIn ws was now free) where
+  module _ (a : IsAccepted ws) {common′ free : ℕ} {now : List ℕ} (c : common′ ≡ common (pairs ws)) (f : FreeIn ws was now free) where
     front : take (registers ws) now ≡ freeSchedule (registers ws) (pairs ws)
     front = ap (take (registers ws)) (f .places) ∙ take-at (freeSchedule (registers ws) (pairs ws)) _ (registers ws) (unbeaten-free (r .list) .size)
 
@@ -83,10 +83,10 @@ module _ {ws : List ℕ} {n count : ℕ} {was : List ℕ} (r : Roomy ws n count 
     unfolding replyOf bufferAfter freeReply
     settled =
         record {
-          reply = rw (done-is, c, f .period);
-          stored = rw done-is (f .places);
+          reply = rw (done-is a, c, f .period);
+          stored = rw (done-is a) (f .places);
           unbeaten = λ c₁ f₁ q. let z : f₁ ≡ free = cc in rw (z ∙ f .period, front) (unbeaten-free (r .list));
-          passes = λ c₁ f₁ q. let z : f₁ ≡ free = cc in passes-as ws (z ∙ f .period) front (free-passes (r .list));
+          passes = λ c₁ f₁ q. let z : f₁ ≡ free = cc in passes-as ws (z ∙ f .period) front (free-passes (r .list) a);
         }
 
 module _ (ws was : List ℕ) where
@@ -112,6 +112,10 @@ module _ (ws was : List ℕ) where
   too-small c h =
       let small : length was < registers ws = omega (arith, c .registersAre) in
       refuses (then-refused (listChecks ws) _ _ (accepted→none ws (c .accepted) .none) (one-fails (lt-ltb _ _ small)))
+
+-- enough places
+pub roomy : {ws was : List ℕ} {n count : ℕ} → AcceptedList ws n count → n ≤ length was → IsAccepted ws × Roomy ws n count was
+roomy {ws = ws} l h = (l .accepted, record { list = usable-list ws l; room = h })
 
 pub list-counts : (ws : List ℕ) {n m : ℕ} → verdict ws ≡ Verdict.Accepted n m → AcceptedList ws n m
 list-counts ws e = accepted→none ws e .list

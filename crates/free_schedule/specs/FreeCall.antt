@@ -7,7 +7,7 @@ use lib.ListN.{length, take}
 use Rattle.buffers.specs.Over.{over}
 use Rattle.refusals.specs.Checks.{Check}
 use Rattle.refusals.specs.Reply.{Reply, refusal, numbers, Outcome, done, replyOf, bufferAfter, answered}
-use Rattle.list_format.specs.Lists.{registers, pairCount, pairs, listChecks, IsAccepted, AcceptedList}
+use Rattle.list_format.specs.Lists.{registers, pairCount, pairs, listChecks, UsableList}
 use Rattle.free_laws.specs.Free.{common, freePeriod, freeSchedule}
 use Rattle.free_laws.specs.Unbeaten.{UnbeatenFree}
 use Rattle.checker.specs.Check.{Passes}
@@ -38,9 +38,9 @@ pub record FreeAs (ws was now : List ℕ) (r : FreeAnswer) : Type 0 where
   -- that schedule, brought to a check at the free period, passes
   pub passes : (common free : ℕ) → r ≡ Periods common free → Passes ws free (take (registers ws) now)
 
--- an accepted list with its counts, and a buffer with a place for each register
+-- a list with its counts, and a buffer with a place for each register
 pub record Roomy (ws : List ℕ) (n count : ℕ) (buffer : List ℕ) : Type 0 where
-  pub list : AcceptedList ws n count
+  pub list : UsableList ws n count
   pub room : n ≤ length buffer
 
 -- the free period, with the free schedule in the first places of the buffer

@@ -1,6 +1,6 @@
 // The common period, the free period and the free schedule of a delay list.
 // The contracts cite `specs/FreeCall.antt`, and the definitions of `free_laws`.
-ghost use Rattle.list_format.specs.Lists.{AcceptedList};
+ghost use Rattle.list_format.specs.Lists.{IsAccepted, AcceptedList};
 ghost use Rattle.free_schedule.specs.FreeCall.{FreeAs, Roomy, FreeIn};
 use list_format::Verdict;
 use pair_ends::ENDS;
@@ -15,7 +15,7 @@ pub enum FreeAnswer {
     Refused(u32, usize),
 }
 
-// The free period of an accepted list of n registers, with the ends of its pairs; the free schedule fills the first n places.
+// The free period of a list of n registers, with the ends of its pairs; the free schedule fills the first n places.
 pub fn fill(
     words: &[u32],
     n: usize,
@@ -38,7 +38,7 @@ fn answer_by(
     before: &mut [u16],
     answer: &mut [u32],
 ) -> FreeAnswer
-    requires { ⌜ Roomy (now words) n count (now answer) ⌝ }
+    requires { ⌜ IsAccepted (now words) × Roomy (now words) n count (now answer) ⌝ }
     ensures { λ r. ⌜ FreeAs (now (words .entry)) (now (answer .entry)) (now (answer .exit)) r ⌝ }
 {
     let mut lasts = [0u16; REGISTERS];

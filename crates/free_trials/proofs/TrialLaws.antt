@@ -12,8 +12,8 @@ use lib.ListN.{length, drop, replicate, length-replicate}
 use lib.Seq.{drop-length}
 use Rattle.timing.specs.Rules.{admissible, Each, InRange}
 use Rattle.timing.specs.Limits.{maxPeriod, maxTiming}
-use Rattle.list_format.specs.Lists.{registers, pairs, IsAccepted, AcceptedList}
-use Rattle.list_format.proofs.ListLaws.{few-registers, pairs-in-range, pairs-within, still-accepted}
+use Rattle.list_format.specs.Lists.{registers, pairs, IsUsable, UsableList}
+use Rattle.list_format.proofs.ListLaws.{few-registers, pairs-in-range, pairs-within, still-usable}
 use Rattle.buffers.specs.Over.{zeros}
 use Rattle.free_laws.specs.Constraint.{Meets, constraints, Below, Bound}
 use Rattle.free_laws.specs.Raise.{Capped, Risen, RoundTo}
@@ -32,12 +32,12 @@ use Rattle.free_trials.specs.Trial.{Trial, Judged, Tried}
 pub all-cleared : (x₀ : List ℕ) {x : List ℕ} → x ≡ replicate (length x₀) 0 ++ drop (length x₀) x₀ → x ≡ zeros (length x₀)
 all-cleared x₀ e = e ∙ rw (drop-length x₀, append-nil)
 
-module _ {ws : List ℕ} {n count t : ℕ} {x : List ℕ} (a : AcceptedList ws n count) (h : t ≤ maxPeriod) (e : x ≡ zeros n) where
+module _ {ws : List ℕ} {n count t : ℕ} {x : List ℕ} (a : UsableList ws n count) (h : t ≤ maxPeriod) (e : x ≡ zeros n) where
   -- they can be raised
   pub zeros-raise : Raising ws count t x
   zeros-raise =
       record {
-        list = still-accepted (ap length e ∙ length-replicate n 0) a;
+        list = still-usable (ap length e ∙ length-replicate n 0) a;
         capped = rw e (zeros-below n (λ r. maxTiming));
         period = h;
       }
@@ -48,7 +48,7 @@ module _ {ws : List ℕ} {n count t : ℕ} {x : List ℕ} (a : AcceptedList ws n
 
 -- ---- a trial
 
-bound-limit : (ws : List ℕ) {b : ℕ} → IsAccepted ws → Bound (pairs ws) b → b ≤ maxPeriod
+bound-limit : (ws : List ℕ) {b : ℕ} → IsUsable ws → Bound (pairs ws) b → b ≤ maxPeriod
 bound-limit ws a h = le-trans (bound-common h) (common-limit maxPeriod (omega arith) (pairs ws) (pairs-within ws a))
 
 -- x is no later than any times that meet the rules at t
@@ -70,10 +70,10 @@ trying-under s = record { size = s .rounds .size; capped = s .capped; low = s .r
 
 module _ {ws : List ℕ} {count t : ℕ} {x₀ : List ℕ} (p : Trial ws count t x₀) where
   inside : Each (InRange (registers ws)) (pairs ws)
-  inside = pairs-in-range ws (p .list .accepted)
+  inside = pairs-in-range ws (p .list .usable)
 
   pub trial-limit : t ≤ maxPeriod
-  trial-limit = bound-limit ws (p .list .accepted) (p .bound)
+  trial-limit = bound-limit ws (p .list .usable) (p .bound)
 
   -- ---- schedules raised from all zero
 
@@ -86,8 +86,8 @@ module _ {ws : List ℕ} {count t : ℕ} {x₀ : List ℕ} (p : Trial ws count t
   under-risen o = under-turn (under-start refl) o
 
   module _ {x : List ℕ} (u : Under ws t x) where
-    still-ready : AcceptedList ws (length x) count
-    still-ready = record { accepted = p .list .accepted; registersAre = u .size; pairsAre = p .list .pairsAre }
+    still-ready : UsableList ws (length x) count
+    still-ready = record { usable = p .list .usable; registersAre = u .size; pairsAre = p .list .pairsAre }
 
     pub under-raises : Raising ws count t x
     under-raises = record { list = still-ready; capped = u .capped; period = trial-limit }
@@ -138,7 +138,7 @@ module _ {ws : List ℕ} {count t : ℕ} {x₀ : List ℕ} (p : Trial ws count t
               let n = registers ws in
               let w = within n t (pairs ws) inside in
               let l = least-exists rs n w g m in
-              let limits = pairs-within ws (p .list .accepted) in
+              let limits = pairs-within ws (p .list .usable) in
               let steps : Each (λ q. q .greatest ≤ t + maxPeriod) (pairs ws) = each-map (λ q h. omega arith) (pairs ws) limits in
               let few = few-registers ws (p .list) in
               let cap = least-capped n t (pairs ws) inside maxTiming maxPeriod steps (omega (arith, few, p .list .registersAre)) (l .1) in

@@ -5,12 +5,12 @@ use mathlib.Core.List.{List}
 use mathlib.Core.Path.{_≡_}
 use lib.ListN.{length}
 use Rattle.timing.specs.Rules.{admissible}
-use Rattle.list_format.specs.Lists.{registers, pairs, AcceptedList}
+use Rattle.list_format.specs.Lists.{registers, pairs, UsableList}
 use Rattle.free_laws.specs.Constraint.{constraints, Least, Bound}
 
 -- an accepted list with places for a schedule, and no schedule at a period shorter than t
 pub record Trial (ws : List ℕ) (count t : ℕ) (x : List ℕ) : Type 0 where
-  pub list : AcceptedList ws (length x) count
+  pub list : UsableList ws (length x) count
   pub pos : 1 ≤ t
   pub bound : Bound (pairs ws) t
 

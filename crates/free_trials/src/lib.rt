@@ -5,7 +5,7 @@ ghost use Prim.Native.Nat.{_≤_};
 ghost use lib.ListN.{length};
 ghost use Rattle.timing.specs.Limits.{maxPeriod, maxTiming};
 ghost use Rattle.buffers.specs.Over.{zeros};
-ghost use Rattle.list_format.specs.Lists.{pairs, AcceptedList};
+ghost use Rattle.list_format.specs.Lists.{pairs, UsableList};
 ghost use Rattle.free_laws.specs.Constraint.{constraints, Bound};
 ghost use Rattle.free_laws.specs.Raise.{Risen};
 ghost use Rattle.free_rounds.specs.Raise.{Raising};
@@ -148,7 +148,7 @@ pub fn seek(
     lasts: &[u16; PARENTS],
     before: &[u16],
 ) -> u32
-    requires { ⌜ AcceptedList (now words) (length (now x)) count × (period ≤ maxPeriod) ⌝ }
+    requires { ⌜ UsableList (now words) (length (now x)) count × (period ≤ maxPeriod) ⌝ }
     ensures risen { λ u. ⌜ Risen maxTiming (constraints period (pairs (now (words .entry)))) (zeros (length (now (x .entry)))) (now (x .exit)) ⌝ }
     ensures bound { λ u. ⌜ Bound (pairs (now (words .entry))) u ⌝ }
 {

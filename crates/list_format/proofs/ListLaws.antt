@@ -12,7 +12,7 @@ use Rattle.timing.specs.declared.Pair.{Pair}
 use Rattle.timing.specs.Rules.{Each, InRange}
 use Rattle.timing.specs.Limits.{maxRegisters, maxPairs, maxDelay, maxNeed, maxPeriod}
 use Rattle.words.specs.Word.{kindHead, kindPair, kindLeast, kindGreatest, kindNeeds, kindEnd, kindOf, payloadOf, headSpare, pairSpare, checksum}
-use Rattle.words.specs.Word.{payloadBits, holdOf, setupOf, needsSpare}
+use Rattle.words.specs.Word.{holdOf, setupOf, needsSpare}
 use Rattle.refusals.specs.Checks.{Check, firstFault, eachCheck}
 use Rattle.refusals.specs.Reply.{numbers, Outcome, replyOf, answered}
 use Rattle.refusals.specs.declared.Fault.{Fault}
@@ -23,7 +23,8 @@ use Rattle.list_format.specs.Lists.{word, registers, pairCount, needWord
 use Rattle.list_format.specs.Lists.{countingNeeds, pairAt, pairsFrom, pairs, placeOf, stepOf, noNeeds}
 use Rattle.list_format.specs.Lists.{differ, headChecks, needChecks, blockChecks, kindChecks, valueChecks, pairChecks, endChecks, pairsChecks}
 use Rattle.list_format.specs.Lists.{bodyChecks, listChecks}
-use Rattle.list_format.specs.Lists.{judged, verdict, NeedsIn, ValuesIn, WrittenIn, IsAccepted, AcceptedList, PairIn, IsWritten, IsPair}
+use Rattle.list_format.specs.Lists.{judged, verdict, NeedsIn, ValuesIn, WrittenIn, IsAccepted, AcceptedList}
+use Rattle.list_format.specs.Lists.{firstNeeds, IsUsable, UsableList, PairIn, IsWritten, IsPair}
 use Rattle.list_format.proofs.NeedsLaws.{needs-present, needs-absent}
 use Rattle.list_format.specs.declared.Verdict.{Verdict}
 use Rattle.list_format.specs.declared.Verdict.the-variants.{Accepted, Refused}
@@ -79,13 +80,9 @@ module _ (ws : List ℕ) where
   unfolding verdict
   accepted→none a = judged-accepted (firstFault (listChecks ws)) refl a
 
--- it stays so with a count of registers that is the same number
-pub still-accepted : {ws : List ℕ} {n m k : ℕ} → k ≡ n → AcceptedList ws n m → AcceptedList ws k m
-still-accepted e a = record { accepted = a .accepted; registersAre = e ∙ a .registersAre; pairsAre = a .pairsAre }
-
--- the smallest word of needs
-abbrev pub firstNeeds : ℕ
-firstNeeds = kindNeeds * 2 ^ payloadBits
+-- a list stays usable with a count of registers that is the same number
+pub still-usable : {ws : List ℕ} {n m k : ℕ} → k ≡ n → UsableList ws n m → UsableList ws k m
+still-usable e l = record { usable = l .usable; registersAre = e ∙ l .registersAre; pairsAre = l .pairsAre }
 
 -- ---- the facts behind the checks
 
@@ -269,6 +266,49 @@ module _ (ws : List ℕ) where
   pub numbers-in : (cs : List Check) (o : Outcome) {xs : List ℕ} → numbers xs ≡ replyOf (answered (listChecks ws ++ cs) o) → ListIn
   numbers-in cs o e = list-in (both-pass (listChecks ws) cs (numbers-none (firstFault (listChecks ws ++ cs)) o e) .0)
 
+  -- ---- it can be used
+
+  -- the word after the head is of needs, or else the first of a pair, which is smaller than any of needs
+  pub none-below : word ws 1 < firstNeeds → needWords ws ≡ 0
+  none-below h = needs-absent ws (λ e. omega (arith, e))
+
+  needs-second : ListIn → 0 < pairCount ws → firstNeeds ≤ word ws 1 → needWords ws ≡ registers ws
+  needs-second l some h = go (eqb (kindOf (word ws 1)) kindNeeds) refl
+    where
+      go : (is : Bool) → eqb (kindOf (word ws 1)) kindNeeds ≡ is → needWords ws ≡ registers ws
+      go true e = needs-present ws (eqb-true _ _ e)
+      go false e =
+          let none = needs-absent ws (eqb-false (kindOf (word ws 1)) kindNeeds e) in
+          let first : pairPlace ws 0 ≡ 1 = omega (arith, none) in
+          let kind : kindOf (word ws 1) ≡ kindPair = rw first at (l .kinds 0 some .kind) in
+          absurd (omega (arith, kind, h))
+
+  counted-in : ListIn → (k : ℕ) → k < pairCount ws → ValuesIn maxPeriod (registers ws) (pairAt ws k)
+  unfolding pairAt
+  counted-in l k h =
+      let v = l .values k h .values in
+      let s = needs-within l (writtenAt ws k .capture) .setup in
+      record { launch = v .launch; capture = v .capture; order = omega (arith, v .order); limit = omega (arith, v .limit, s) }
+
+  pub list-usable : ListIn → IsUsable ws
+  list-usable l =
+      let h = l .head in
+      record {
+        some = h .some;
+        most = h .most;
+        few = h .few;
+        size = omega (arith, h .size);
+        second = needs-second l;
+        holds = λ k below. l .values k below .holds;
+        values = counted-in l;
+      }
+
+  pub accepted-usable : IsAccepted ws → IsUsable ws
+  accepted-usable a = list-usable (accepted-in a)
+
+  pub usable-list : {n m : ℕ} → AcceptedList ws n m → UsableList ws n m
+  usable-list l = record { usable = accepted-usable (l .accepted); registersAre = l .registersAre; pairsAre = l .pairsAre }
+
   -- ---- its pairs
 
   -- pair k stands in the list
@@ -278,42 +318,23 @@ module _ (ws : List ℕ) where
 
   pub stands : (k : ℕ) → PairIn ws k → Stands k
   stands k p =
-      let h = accepted-in (p .accepted) .head in
-      record { few = omega (arith, h .few, p .below); room = omega (arith, h .size, p .below) }
-
-  -- the word after the head is of needs, or else the first of a pair, which is smaller than any of needs
-  pub none-below : word ws 1 < firstNeeds → needWords ws ≡ 0
-  none-below h = needs-absent ws (λ e. omega (arith, e))
+      let u = p .usable in
+      record { few = omega (arith, u .few, p .below); room = omega (arith, u .size, p .below) }
 
   pub needs-from : (k : ℕ) → PairIn ws k → firstNeeds ≤ word ws 1 → needWords ws ≡ registers ws
-  needs-from k p h = go (eqb (kindOf (word ws 1)) kindNeeds) refl
-    where
-      go : (is : Bool) → eqb (kindOf (word ws 1)) kindNeeds ≡ is → needWords ws ≡ registers ws
-      go true e = needs-present ws (eqb-true _ _ e)
-      go false e =
-          let none = needs-absent ws (eqb-false (kindOf (word ws 1)) kindNeeds e) in
-          let first : pairPlace ws 0 ≡ 1 = omega (arith, none) in
-          let kind : kindOf (word ws 1) ≡ kindPair = rw first at (accepted-in (p .accepted) .kinds 0 (omega (arith, p .below)) .kind) in
-          absurd (omega (arith, kind, h))
-
-  pub is-written : (k : ℕ) → PairIn ws k → IsWritten ws k (writtenAt ws k)
-  is-written k p =
-      record { same = refl; values = accepted-in (p .accepted) .values k (p .below) }
+  needs-from k p h = p .usable .second (omega (arith, p .below)) h
 
   pub is-pair : (k : ℕ) → PairIn ws k → IsPair ws k (pairAt ws k)
+  is-pair k p = record { same = refl; values = p .usable .values k (p .below) }
+
+  pub is-written : (k : ℕ) → PairIn ws k → IsWritten ws k (writtenAt ws k)
   unfolding pairAt
-  is-pair k p =
-      let v = accepted-in (p .accepted) .values k (p .below) .values in
-      let s = needs-within (accepted-in (p .accepted)) (writtenAt ws k .capture) .setup in
-      record {
-        same = refl;
-        values = record { launch = v .launch; capture = v .capture; order = omega (arith, v .order); limit = omega (arith, v .limit, s) };
-      }
+  is-written k p = record { same = refl; holds = p .usable .holds k (p .below); values = p .usable .values k (p .below) }
 
   -- with its needs counted in it is the pair of the jobs
-  pub is-counted : (k : ℕ) → PairIn ws k → {p : Pair} → IsWritten ws k p → IsPair ws k (countingNeeds ws p)
+  pub is-counted : (k : ℕ) {p : Pair} → IsWritten ws k p → IsPair ws k (countingNeeds ws p)
   unfolding pairAt
-  is-counted k p w = rw (w .same) (is-pair k p)
+  is-counted k w = record { same = ap (countingNeeds ws) (w .same); values = w .values }
 
   -- a property of each pair of the list
   each-from : (P : Pair → Type 0) (k left : ℕ) → ((i : ℕ) → i < k + left → P (pairAt ws i)) → Each P (pairsFrom ws k left)
@@ -340,29 +361,29 @@ module _ (ws : List ℕ) where
       let z : 0 + k ≡ k = omega arith in
       rw z at (each-at P 0 (pairCount ws) k h e)
 
-  pub pairs-in-range : IsAccepted ws → Each (InRange (registers ws)) (pairs ws)
-  pairs-in-range a =
+  pub pairs-in-range : IsUsable ws → Each (InRange (registers ws)) (pairs ws)
+  pairs-in-range u =
       each-pair (InRange (registers ws)) (λ k h.
-      let v = is-pair k (record { accepted = a; below = h }) .values in
+      let v = u .values k h in
       record { launch = v .launch; capture = v .capture })
 
   -- no pair asks for more than the longest period
-  pub pairs-within : IsAccepted ws → Each (λ p. p .greatest ≤ maxPeriod) (pairs ws)
-  pairs-within a = each-pair (λ p. p .greatest ≤ maxPeriod) (λ k h. is-pair k (record { accepted = a; below = h }) .values .limit)
+  pub pairs-within : IsUsable ws → Each (λ p. p .greatest ≤ maxPeriod) (pairs ws)
+  pairs-within u = each-pair (λ p. p .greatest ≤ maxPeriod) (λ k h. u .values k h .limit)
 
-  -- an accepted list has at least one register, and no more registers and pairs than the limits
-  module _ {n m : ℕ} (l : AcceptedList ws n m) where
+  -- it has at least one register, and no more registers and pairs than the limits
+  module _ {n m : ℕ} (l : UsableList ws n m) where
     pub some-registers : 0 < n
-    some-registers = omega (arith, accepted-in (l .accepted) .head .some, l .registersAre)
+    some-registers = omega (arith, l .usable .some, l .registersAre)
 
     pub few-registers : n ≤ maxRegisters
-    few-registers = omega (arith, accepted-in (l .accepted) .head .most, l .registersAre)
+    few-registers = omega (arith, l .usable .most, l .registersAre)
 
     pub few-pairs : m ≤ maxPairs
-    few-pairs = omega (arith, accepted-in (l .accepted) .head .few, l .pairsAre)
+    few-pairs = omega (arith, l .usable .few, l .pairsAre)
 
     pub pair-in : {k : ℕ} → k < m → PairIn ws k
-    pair-in h = record { accepted = l .accepted; below = omega (arith, l .pairsAre) }
+    pair-in h = record { usable = l .usable; below = omega (arith, l .pairsAre) }
 
 -- ---- walks up and down the list
 

@@ -10,7 +10,7 @@ use lib.ListN.{length, getD, take}
 use Rattle.timing.specs.declared.Pair.{Pair}
 use Rattle.timing.specs.Rules.{pair}
 use Rattle.timing.specs.Limits.{maxRegisters, maxPairs, maxDelay, maxNeed, maxPeriod}
-use Rattle.words.specs.Word.{kindHead, kindPair, kindLeast, kindGreatest, kindNeeds, kindEnd, kindOf, payloadOf, checksum}
+use Rattle.words.specs.Word.{payloadBits, kindHead, kindPair, kindLeast, kindGreatest, kindNeeds, kindEnd, kindOf, payloadOf, checksum}
 use Rattle.words.specs.Word.{headPairs, headRegisters, headSpare, launchOf, captureOf, pairSpare, holdOf, setupOf, needsSpare}
 use Rattle.buffers.specs.Run.{run}
 use Rattle.refusals.specs.Checks.{Check, firstFault, eachCheck}
@@ -213,17 +213,41 @@ pub record AcceptedList (ws : List ℕ) (n m : ℕ) : Type 0 where
   pub registersAre : n ≡ registers ws
   pub pairsAre : m ≡ pairCount ws
 
--- the list is accepted, and pair k is one of its pairs
+-- ---- what the jobs take their pairs from
+
+-- the smallest word of needs
+abbrev pub firstNeeds : ℕ
+firstNeeds = kindNeeds * 2 ^ payloadBits
+
+-- A list that pairs can be taken from: an accepted one, or one like it with longer delays. Its counts are in range and all its words stand
+-- there; where it has a pair, only a word of needs after the head is as large as that; and each pair is in range with its needs counted in
+pub record IsUsable (ws : List ℕ) : Type 0 where
+  pub some : 0 < registers ws
+  pub most : registers ws ≤ maxRegisters
+  pub few : pairCount ws ≤ maxPairs
+  pub size : pairPlace ws (pairCount ws) < length ws
+  pub second : 0 < pairCount ws → firstNeeds ≤ word ws 1 → needWords ws ≡ registers ws
+  pub holds : (k : ℕ) → k < pairCount ws → holdAt ws (writtenAt ws k .capture) ≤ writtenAt ws k .least
+  pub values : (k : ℕ) → k < pairCount ws → ValuesIn maxPeriod (registers ws) (pairAt ws k)
+
+-- such a list with its counts: n registers and m pairs
+pub record UsableList (ws : List ℕ) (n m : ℕ) : Type 0 where
+  pub usable : IsUsable ws
+  pub registersAre : n ≡ registers ws
+  pub pairsAre : m ≡ pairCount ws
+
+-- pair k is one of its pairs
 pub record PairIn (ws : List ℕ) (k : ℕ) : Type 0 where
-  pub accepted : IsAccepted ws
+  pub usable : IsUsable ws
   pub below : k < pairCount ws
 
--- p is pair k of an accepted list as it is written, with what is known of its numbers
+-- p is pair k as it is written, with what is known of its numbers
 pub record IsWritten (ws : List ℕ) (k : ℕ) (p : Pair) : Type 0 where
   pub same : p ≡ writtenAt ws k
-  pub values : WrittenIn (registers ws) (holdAt ws (p .capture)) p
+  pub holds : holdAt ws (p .capture) ≤ p .least
+  pub values : ValuesIn maxPeriod (registers ws) (countingNeeds ws p)
 
--- p is pair k of an accepted list as the jobs take it
+-- p is pair k as the jobs take it
 pub record IsPair (ws : List ℕ) (k : ℕ) (p : Pair) : Type 0 where
   pub same : p ≡ pairAt ws k
   pub values : ValuesIn maxPeriod (registers ws) p

@@ -2,7 +2,7 @@
 // They are a hint only, and nothing is promised of them.
 ghost use mathlib.Core.Path.{_≡_};
 ghost use Prim.Native.Nat.{_^_, _<_};
-ghost use Rattle.list_format.specs.Lists.{pairCount, IsAccepted};
+ghost use Rattle.list_format.specs.Lists.{pairCount, IsUsable};
 use timing::MAX_PAIRS;
 
 pub const REGISTERS: usize = timing::MAX_REGISTERS as usize;
@@ -33,7 +33,7 @@ fn join(a: usize, b: usize, i: usize, lasts: &mut [u16; REGISTERS], before: &mut
 
 // Both ends of every pair: lasts[r] is the last end at register r, before[e - 1] the one before end e.
 pub fn link(words: &[u32], count: usize, lasts: &mut [u16; REGISTERS], before: &mut [u16])
-    requires { ⌜ IsAccepted (now words) ⌝ }
+    requires { ⌜ IsUsable (now words) ⌝ }
     requires { ⌜ count ≡ pairCount (now words) ⌝ }
 {
     let mut k = 0;

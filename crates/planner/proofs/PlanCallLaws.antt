@@ -17,17 +17,19 @@ use Rattle.refusals.specs.Checks.{firstFault}
 use Rattle.refusals.specs.Reply.{refused, done, replyOf, bufferAfter, scratchAfter}
 use Rattle.refusals.specs.declared.Fault.{Fault}
 use Rattle.refusals.specs.declared.Fault.the-variants.{None, At}
-use Rattle.refusals.proofs.CheckLaws.{pass-both, passed}
+use Rattle.refusals.proofs.CheckLaws.{pass-both, both-pass, passed}
 use Rattle.refusals.proofs.ReplyLaws.{answered-done, first-refused, then-refused}
-use Rattle.list_format.specs.Lists.{registers, pairCount, pairs, listChecks, verdict, AcceptedList}
+use Rattle.list_format.specs.Lists.{registers, pairCount, pairs, listChecks, verdict, IsAccepted, UsableList}
 use Rattle.list_format.specs.declared.Verdict.the-variants.{Accepted}
 use Rattle.list_format.specs.declared.Verdict.the-variants.{Refused as ListRefused}
-use Rattle.list_format.proofs.ListLaws.{refused→fault, accepted→none, pairs-in-range, still-accepted}
+use Rattle.list_format.proofs.ListLaws.{refused→fault, accepted→none, none→accepted, usable-list, pairs-in-range, some-registers, still-usable}
+use Rattle.counted_list.specs.Counted.{countedIn, Countable}
+use Rattle.counted_list.proofs.CountedLaws.{counted-length, counted-usable, counted-pairs}
 use Rattle.free_laws.specs.Free.{common, freePeriod, freeSchedule}
 use Rattle.free_laws.proofs.FreeLaws.{period-pos}
 use Rattle.free_laws.specs.Constraint.{Bound}
 use Rattle.free_laws.proofs.Bound.{bound-free}
-use Rattle.free_schedule.specs.FreeCall.{FreeIn}
+use Rattle.free_schedule.specs.FreeCall.{Roomy, FreeIn}
 use Rattle.free_schedule.proofs.CallLaws.{common-upto, free-passes}
 use Rattle.checker.specs.Check.{Passes}
 use Rattle.checker.proofs.CheckLaws.{admissible-passes, passes-as}
@@ -82,7 +84,7 @@ module _ (ws answer scratch : List ℕ) where
         let k : scratchPlaces (registers ws) (pairCount ws) ≤ length scratch = ltb-false _ _ (p .1 .0) in
         record {
           none = pass-both (listChecks ws) call (a .none) (sym fault-is ∙ g);
-          list = a .list;
+          list = usable-list ws (a .list);
           answers = omega (arith, a .list .registersAre);
           scratches = omega (arith, a .list .registersAre, a .list .pairsAre);
         }
@@ -99,8 +101,9 @@ module _ (ws : List ℕ) {top two : ℕ} (e : top ≡ common (pairs ws)) (p : tw
 
 -- ---- an allowed call
 
-pub allowed-kept : {ws : List ℕ} {n m room room′ spare : ℕ} → PlanAllowed ws n m room spare → room′ ≡ room → PlanAllowed ws n m room′ spare
-allowed-kept a e = rw e a
+pub allowed-kept : {ws : List ℕ} {n m room room′ spare spare′ : ℕ} → PlanAllowed ws n m room spare → room′ ≡ room → spare′ ≡ spare
+    → PlanAllowed ws n m room′ spare′
+allowed-kept a e f = rw (e, f) a
 
 module _ {ws : List ℕ} {n m room spare : ℕ} (a : PlanAllowed ws n m room spare) where
   -- the first n places of the scratch, lent
@@ -108,20 +111,47 @@ module _ {ws : List ℕ} {n m room spare : ℕ} (a : PlanAllowed ws n m room spa
     pub lent-size : length (take n scratch) ≡ n
     lent-size = length-take-le n scratch (omega (arith, a .scratches))
 
-    pub lent-ready : AcceptedList ws (length (take n scratch)) m
-    lent-ready = still-accepted lent-size (a .list)
+    pub lent-ready : UsableList ws (length (take n scratch)) m
+    lent-ready = still-usable lent-size (a .list)
+
+  -- ---- the free period
+
+  -- by a copy of the list with its needs counted in, in the scratch
+  module _ (scratch : List ℕ) (e : length scratch ≡ spare) where
+    countable : Countable ws m scratch
+    countable =
+        let l = a .list in
+        record { usable = l .usable; pairsAre = l .pairsAre; room = omega (arith, a .scratches, l .registersAre, some-registers ws l) }
+
+    module _ {S : List ℕ} (s : S ≡ over (countedIn ws) scratch) where
+      pub counted-roomy : {answer : List ℕ} → length answer ≡ room → Roomy S n m answer
+      counted-roomy f = rw s (record { list = counted-usable countable (a .list .registersAre); room = omega (arith, a .answers) })
+
+      counted-same : pairs S ≡ pairs ws
+      counted-same = ap pairs s ∙ counted-pairs countable
+
+      pub counted-free : {answer answer′ : List ℕ} {free : ℕ} → FreeIn S answer answer′ free → FreeIn ws answer answer′ free
+      counted-free f =
+          let same : registers S ≡ registers ws = ap registers s in
+          record { period = rw (same, counted-same) at (f .period); places = rw (same, counted-same) at (f .places) }
+
+      pub counted-rest : drop (scratchPlaces n m) S ≡ drop (scratchPlaces n m) scratch
+      counted-rest =
+          let size = counted-length ws in
+          drop-further (length (countedIn ws)) (scratchPlaces n m) scratch S (omega (arith, size, a .list .pairsAre))
+          (rw s (drop-at (countedIn ws) _ (length (countedIn ws)) refl))
 
   -- ---- the two-timing period
 
   -- the free period bounds it
   module _ {free : ℕ} (e : free ≡ freePeriod (registers ws) (pairs ws)) where
     pub free-pos : 1 ≤ free
-    free-pos = omega (arith, e, period-pos (registers ws) (pairs ws) (pairs-in-range ws (a .list .accepted)))
+    free-pos = omega (arith, e, period-pos (registers ws) (pairs ws) (pairs-in-range ws (a .list .usable)))
 
     pub free-bound : Bound (pairs ws) (free - 1 + 1)
     free-bound =
         let same : free - 1 + 1 ≡ freePeriod (registers ws) (pairs ws) = omega (arith, e, free-pos) in
-        rw same (bound-free (registers ws) (pairs ws) (pairs-in-range ws (a .list .accepted)))
+        rw same (bound-free (registers ws) (pairs ws) (pairs-in-range ws (a .list .usable)))
 
   module _ {top two : ℕ} (e : top ≡ common (pairs ws)) {W : List ℕ} (r : Reached ws W two) where
     -- the reaches come back in the first n places, and the split is read from them
@@ -158,7 +188,10 @@ C ws = twoTimings (registers ws) (pairs ws)
 module _ (ws answer scratch : List ℕ) {n m : ℕ} (a : PlanAllowed ws n m (length answer) (length scratch)) where
   whole : Unbeaten (registers ws) (pairs ws) (common (pairs ws)) (freePeriod (registers ws) (pairs ws))
       (twoPeriod (registers ws) (pairs ws)) (twoOffset (registers ws) (pairs ws)) (F ws) (C ws)
-  whole = plan-unbeaten (registers ws) (pairs ws) (pairs-in-range ws (a .list .accepted))
+  whole = plan-unbeaten (registers ws) (pairs ws) (pairs-in-range ws (a .list .usable))
+
+  accepted : IsAccepted ws
+  accepted = none→accepted ws (both-pass (listChecks ws) _ (a .none) .0)
 
   -- the split's timings, brought to a check at the two-timing period
   two-passes : Passes ws (twoPeriod (registers ws) (pairs ws)) (C ws)
@@ -166,7 +199,7 @@ module _ (ws answer scratch : List ℕ) {n m : ℕ} (a : PlanAllowed ws n m (len
   two-passes =
       let upto = common-upto (a .list) in
       let limit = timings-below maxTiming (twoOffset (registers ws) (pairs ws)) (whole .split .split) (omega arith) in
-      admissible-passes ws _ (C ws) (a .list .accepted) (whole .split .fromOne) (le-trans (whole .commonLast) upto) (whole .split .size)
+      admissible-passes ws _ (C ws) accepted (whole .split .fromOne) (le-trans (whole .commonLast) upto) (whole .split .size)
       (λ r. rw (whole .split .shown) (limit r)) (whole .split .meets)
 
   outcome : planning ws (length answer) (length scratch)
@@ -176,8 +209,8 @@ module _ (ws answer scratch : List ℕ) {n m : ℕ} (a : PlanAllowed ws n m (len
   unfolding planning
   outcome = answered-done (planChecks ws (length answer) (length scratch)) _ (a .none)
 
-  module _ {top free two : ℕ} {A₁ A₂ S₁ S₂ : List ℕ} (e : top ≡ common (pairs ws)) (f : FreeIn ws answer A₁ free)
-      (t : TwoIn ws n A₁ A₂ scratch S₁ two) (cleared : S₂ ≡ replicate (scratchPlaces n m) 0 ++ drop (scratchPlaces n m) S₁) where
+  module _ {top free two : ℕ} {A₁ A₂ S₀ S₁ S₂ : List ℕ} (e : top ≡ common (pairs ws)) (f : FreeIn ws answer A₁ free)
+      (rest : drop (scratchPlaces n m) S₀ ≡ drop (scratchPlaces n m) scratch) (t : TwoIn ws n A₁ A₂ S₀ S₁ two) (cleared : S₂ ≡ replicate (scratchPlaces n m) 0 ++ drop (scratchPlaces n m) S₁) where
     stored : A₂ ≡ over ((F ws) ++ (C ws)) answer
     stored =
         t .places ∙ ap (λ (x : List ℕ). over (take n x ++ (C ws)) x) (f .places)
@@ -187,7 +220,7 @@ module _ (ws answer scratch : List ℕ) {n m : ℕ} (a : PlanAllowed ws n m (len
     zeros : S₂ ≡ over (replicate (scratchPlaces (registers ws) (pairCount ws)) 0) scratch
     zeros =
         cleared
-        ∙ ap (λ (x : List ℕ). replicate (scratchPlaces n m) 0 ++ x) (drop-further n (scratchPlaces n m) scratch S₁ (omega arith) (t .rest))
+        ∙ ap (λ (x : List ℕ). replicate (scratchPlaces n m) 0 ++ x) (drop-further n (scratchPlaces n m) S₀ S₁ (omega arith) (t .rest) ∙ rest)
         ∙ rw (length-replicate, a .list .registersAre, a .list .pairsAre)
 
     front : take (registers ws) A₂ ≡ (F ws)
@@ -215,5 +248,5 @@ module _ (ws answer scratch : List ℕ) {n m : ℕ} (a : PlanAllowed ws n m (len
           passes = λ c₁ f₁ t₁ o₁ q.
               let ef : f₁ ≡ free = cc in
               let et : t₁ ≡ two = cc in
-              (passes-as ws (ef ∙ f .period) front (free-passes (a .list)), passes-as ws (et ∙ t .period) behind two-passes);
+              (passes-as ws (ef ∙ f .period) front (free-passes (a .list) accepted), passes-as ws (et ∙ t .period) behind two-passes);
         }

@@ -9,7 +9,7 @@ use Rattle.buffers.specs.Over.{over}
 use Rattle.refusals.specs.Checks.{Check, firstFault}
 use Rattle.refusals.specs.declared.Fault.the-variants.{None}
 use Rattle.refusals.specs.Reply.{Reply, refusal, numbers, Outcome, done, replyOf, bufferAfter, scratchAfter, answered}
-use Rattle.list_format.specs.Lists.{registers, pairCount, pairs, listChecks, AcceptedList}
+use Rattle.list_format.specs.Lists.{registers, pairCount, pairs, listChecks, UsableList}
 use Rattle.free_laws.specs.Free.{common, freePeriod, freeSchedule}
 use Rattle.plan_laws.specs.Plan.{twoPeriod, twoOffset, twoTimings}
 use Rattle.plan_laws.specs.Unbeaten.{Unbeaten}
@@ -55,10 +55,10 @@ pub record PlanAs (ws answer answer′ scratch scratch′ : List ℕ) (r : Plann
 
 -- ---- a call that no refusal fits
 
--- of an accepted list with n registers and m pairs, with `room` places for the answer and `spare` places of scratch
+-- of a list with n registers and m pairs, with `room` places for the answer and `spare` places of scratch
 pub record PlanAllowed (ws : List ℕ) (n m room spare : ℕ) : Type 0 where
   pub none : firstFault (planChecks ws room spare) ≡ None
-  pub list : AcceptedList ws n m
+  pub list : UsableList ws n m
   pub answers : 2 * n ≤ room
   pub scratches : scratchPlaces n m ≤ spare
 

@@ -1,11 +1,13 @@
 // The full plan of a delay list: the common, the free and the two-timing period, the offset, the free timings and the split.
 // The contracts cite `specs/PlanCall.antt`, and the definitions of `free_laws`, `split_laws` and `plan_laws`.
 ghost use mathlib.Core.Path.{_≡_};
-ghost use lib.ListN.{length};
+ghost use lib.ListN.{length, drop};
 ghost use Rattle.refusals.specs.Checks.{firstFault};
 ghost use Rattle.planner.specs.PlanCall.{planCallChecks, PlanAllowed, TwoIn, PlanAs};
 ghost use Rattle.list_format.specs.Lists.{registers, pairs};
+ghost use Rattle.timing.specs.Limits.{scratchPlaces};
 ghost use Rattle.free_laws.specs.Free.{common as commonOf, freePeriod};
+ghost use Rattle.free_schedule.specs.FreeCall.{FreeIn};
 use list_format::Verdict;
 use pair_ends::ENDS;
 use pair_ends::FEW_ENDS;
@@ -28,6 +30,28 @@ fn call_fault(n: u32, m: u32, room: usize, spare: usize) -> Fault
     Fault::None
         .or(room < 2 * (n as usize), 2, 0)
         .or(spare < need, 1, 0)
+}
+
+// The free period of an accepted list; the free schedule fills n places of the answer. Words of needs are counted into a copy of the
+// list first, in the scratch, so that the search takes its pairs with no look at needs.
+fn fill_free(
+    words: &[u32],
+    n: usize,
+    m: usize,
+    lasts: &[u16; REGISTERS],
+    before: &[u16],
+    answer: &mut [u32],
+    scratch: &mut [u32],
+) -> u32
+    requires { ⌜ PlanAllowed (now words) n m (length (now answer)) (length (now scratch)) ⌝ }
+    ensures free { λ r. ⌜ FreeIn (now (words .entry)) (now (answer .entry)) (now (answer .exit)) r ⌝ }
+    ensures rest { λ r. ⌜ drop (scratchPlaces n m) (now (scratch .exit)) ≡ drop (scratchPlaces n m) (now (scratch .entry)) ⌝ }
+{
+    if delay_list::need_count(words) == 0 {
+        return free_schedule::fill(words, n, m, lasts, before, answer);
+    }
+    counted_list::count_in(words, m, scratch);
+    free_schedule::fill(scratch, n, m, lasts, before, answer)
 }
 
 // The two-timing period of an accepted list with that common and that free period; the split's timings fill n places from
@@ -68,7 +92,7 @@ fn plan_by(
     let end = timing::scratch_places(n, m);
     pair_ends::link(words, m, &mut lasts, before);
     let common = free_climb::common(words, m);
-    let free = free_schedule::fill(words, n, m, &lasts, before, answer);
+    let free = fill_free(words, n, m, &lasts, before, answer, scratch);
     let two = fill_split(words, n, m, common, free, &lasts, before, answer, scratch);
     buffers::clear(scratch, end);
     let offset = common - two;

@@ -7,7 +7,7 @@ use Prim.Native.Nat.{ℕ, _+_, _*_, _/_, _%_, _≤_, _<_}
 use lib.ListN.{length, getD, take, drop, replicate}
 use Rattle.timing.specs.Limits.{perRegister, perPair, scratchPlaces}
 use Rattle.buffers.specs.Run.{run}
-use Rattle.list_format.specs.Lists.{pairCount, pairAt, pairs, AcceptedList}
+use Rattle.list_format.specs.Lists.{pairCount, pairAt, pairs, UsableList}
 use Rattle.split_laws.specs.Split.{Found, nothing, found, firstSplit}
 use Rattle.split_laws.specs.Table.{flagAt}
 use Rattle.split_laws.specs.Marks.{Flagged, splitOf}
@@ -30,7 +30,7 @@ pub record Recorded (t s : ℕ) (ws F : List ℕ) : Type 0 where
 
 -- an accepted list with n registers and m pairs, and room for a trial
 pub record Lent (ws : List ℕ) (n m : ℕ) (S : List ℕ) : Type 0 where
-  pub list : AcceptedList ws n m
+  pub list : UsableList ws n m
   pub room : scratchPlaces n m ≤ length S
 
 -- the marks are blank, the flags recorded, and what lies behind them is as it was

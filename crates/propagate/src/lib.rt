@@ -6,7 +6,7 @@ ghost use Prim.Native.Nat.{_+_, _*_, _≤_, _<_};
 ghost use lib.ListN.{length, take, drop, replicate};
 ghost use Rattle.buffers.specs.Over.{over};
 ghost use Rattle.timing.specs.Limits.{perPair};
-ghost use Rattle.list_format.specs.Lists.{registers, AcceptedList};
+ghost use Rattle.list_format.specs.Lists.{registers, UsableList};
 ghost use Rattle.split_laws.specs.Split.{timings};
 ghost use Rattle.split_laws.specs.Marks.{splitOf};
 ghost use Rattle.propagate.specs.Store.{flagsTo, fourAt, Lent, Prepared, Decided};
@@ -71,7 +71,7 @@ fn propagate(words: &[u32], n: usize, m: usize, scratch: &mut [u32]) -> bool
 
 // The broken choices of all pairs, four places to a pair.
 fn record_broken(words: &[u32], period: u32, offset: u32, m: usize, flags: &mut [u32])
-    requires { ⌜ AcceptedList (now words) (registers (now words)) m × (perPair * m ≤ length (now flags)) ⌝ }
+    requires { ⌜ UsableList (now words) (registers (now words)) m × (perPair * m ≤ length (now flags)) ⌝ }
     ensures { λ _. ⌜ now (flags .exit) ≡ over (flagsTo period offset (now (words .entry)) (perPair * m)) (now (flags .entry)) ⌝ }
 {
     let end = PER_PAIR * m;

@@ -16,8 +16,8 @@ use Rattle.buffers.specs.Run.{run}
 use Rattle.buffers.proofs.RunLaws.{run-length, run-at}
 use Rattle.timing.specs.declared.Pair.{Pair}
 use Rattle.timing.specs.Limits.{maxPeriod}
-use Rattle.list_format.specs.Lists.{registers, pairCount, pairAt, pairsFrom, pairs, placeOf, IsPair, AcceptedList}
-use Rattle.list_format.proofs.ListLaws.{each-pair, pairs-within, pair-holds, each-place, still-accepted}
+use Rattle.list_format.specs.Lists.{registers, pairCount, pairAt, pairsFrom, pairs, placeOf, IsPair, UsableList}
+use Rattle.list_format.proofs.ListLaws.{each-pair, pairs-within, pair-holds, each-place, still-usable}
 use Rattle.free_laws.specs.Free.{common}
 use Rattle.free_laws.specs.Constraint.{Bound}
 use Rattle.free_laws.proofs.Bound.{bound-common}
@@ -39,7 +39,7 @@ module _ {ws : List ℕ} {count top : ℕ} {W : List ℕ} (r : Reaching ws count
   pub reaching-then : {D : List ℕ → Type 0} {W′ : List ℕ} {o : Bool} → ReachStep top (pairs ws) D W W′ o → Reaching ws count top W′
   reaching-then h =
       record {
-        list = still-accepted (h .size) (r .list);
+        list = still-usable (h .size) (r .list);
         topIs = r .topIs;
         reaches = h .reaches;
       }
@@ -66,7 +66,7 @@ module _ {ws : List ℕ} {count top : ℕ} {W : List ℕ} (r : Reaching ws count
           inside = record { launch = rw (r .list .registersAre) (is .values .launch); capture = rw (r .list .registersAre) (is .values .capture) };
           order = omega (arith, is .values .order, pair-of .under);
           under = pair-of .under;
-          limit = omega (arith, r .topIs, common-limit maxPeriod (omega arith) (pairs ws) (pairs-within ws (r .list .accepted)));
+          limit = omega (arith, r .topIs, common-limit maxPeriod (omega arith) (pairs ws) (pairs-within ws (r .list .usable)));
         }
 
     -- below what it asks for no split works
@@ -172,12 +172,12 @@ module _ {ws W : List ℕ} {most k : ℕ} (a : Asked ws W most k) where
 
 -- At a period of `floor` or less no times meet the rules, so no split works: `floor` is a reach of every register. Reaches that no
 -- pair raises further give the two-timing period and its split (ReachTwo, of plan_laws).
-module _ {ws : List ℕ} {count top : ℕ} (floor : ℕ) (W : List ℕ) (list : AcceptedList ws (length W) count)
+module _ {ws : List ℕ} {count top : ℕ} (floor : ℕ) (W : List ℕ) (list : UsableList ws (length W) count)
     (e : top ≡ common (pairs ws)) (b : Bound (pairs ws) (floor + 1)) where
   pub reaching-start : {W′ : List ℕ} → W′ ≡ replicate (length W) floor ++ drop (length W) W → Reaching ws count top W′
   reaching-start {W′} levelled =
       record {
-        list = still-accepted (ap length level ∙ length-replicate (length W) floor) list;
+        list = still-usable (ap length level ∙ length-replicate (length W) floor) list;
         topIs = e;
         reaches = rw level (reaches-level top (pairs ws) (length W) floor (omega (arith, e, bound-common b)) b);
       }

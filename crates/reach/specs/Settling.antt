@@ -6,7 +6,7 @@ use lib.ListN.{length}
 use Rattle.timing.specs.declared.Pair.{Pair}
 use Rattle.timing.specs.Rules.{InRange}
 use Rattle.timing.specs.Limits.{maxPeriod}
-use Rattle.list_format.specs.Lists.{registers, pairCount, pairAt, pairs, AcceptedList}
+use Rattle.list_format.specs.Lists.{registers, pairCount, pairAt, pairs, UsableList}
 use Rattle.free_laws.specs.Free.{common}
 use Rattle.split_laws.specs.Split.{timings}
 use Rattle.plan_laws.specs.Plan.{twoPeriod, twoOffset, twoTimings}
@@ -21,7 +21,7 @@ pub record PairReaching (p : Pair) (top : ℕ) (W : List ℕ) : Type 0 where
 
 -- an accepted list with its common period, and reaches of its registers
 pub record Reaching (ws : List ℕ) (count top : ℕ) (W : List ℕ) : Type 0 where
-  pub list : AcceptedList ws (length W) count
+  pub list : UsableList ws (length W) count
   pub topIs : top ≡ common (pairs ws)
   pub reaches : Reaches top (pairs ws) W
 

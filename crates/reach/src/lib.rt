@@ -8,7 +8,7 @@ ghost use Prim.Native.Nat.{_+_, _≤_, _<_, max, min};
 ghost use lib.Dec.{ltb};
 ghost use lib.ListN.{length, take};
 ghost use Rattle.buffers.specs.Over.{over};
-ghost use Rattle.list_format.specs.Lists.{pairs, AcceptedList};
+ghost use Rattle.list_format.specs.Lists.{pairs, UsableList};
 ghost use Rattle.free_laws.specs.Free.{common};
 ghost use Rattle.free_laws.specs.Constraint.{Bound};
 ghost use Rattle.split_laws.specs.Split.{timeOf, timings};
@@ -107,7 +107,7 @@ fn asked(p: Pair, reach: &[u32]) -> u32
 
 // The longest such period, or 1.
 fn period(words: &[u32], count: usize, reach: &[u32]) -> u32
-    requires { ⌜ AcceptedList (now words) (length (now reach)) count ⌝ }
+    requires { ⌜ UsableList (now words) (length (now reach)) count ⌝ }
     ensures { λ r. ⌜ r ≡ reachPeriod 1 (pairs (now (words .entry))) (now (reach .entry)) ⌝ }
 {
     let mut most = 1;
@@ -382,7 +382,7 @@ pub fn two_period(
     before: &[u16],
     reach: &mut [u32],
 ) -> u32
-    requires { ⌜ AcceptedList (now words) (length (now reach)) count × (top ≡ common (pairs (now words))) × Bound (pairs (now words)) (floor + 1) ⌝ }
+    requires { ⌜ UsableList (now words) (length (now reach)) count × (top ≡ common (pairs (now words))) × Bound (pairs (now words)) (floor + 1) ⌝ }
     ensures { λ r. ⌜ Reached (now (words .entry)) (now (reach .exit)) r ⌝ }
 {
     let n = reach.len();

@@ -16,12 +16,12 @@ use Rattle.refusals.specs.Reply.{refused, replyOf, bufferAfter, scratchAfter}
 use Rattle.timing.specs.Limits.{maxTiming, scratchPlaces}
 use Rattle.refusals.specs.declared.Fault.{Fault}
 use Rattle.refusals.specs.declared.Fault.the-variants.{None, At}
-use Rattle.refusals.proofs.CheckLaws.{pass-both, passed}
+use Rattle.refusals.proofs.CheckLaws.{pass-both, both-pass, passed}
 use Rattle.refusals.proofs.ReplyLaws.{answered-done, first-refused, then-refused}
-use Rattle.list_format.specs.Lists.{registers, pairCount, pairs, listChecks, verdict}
+use Rattle.list_format.specs.Lists.{registers, pairCount, pairs, listChecks, verdict, IsAccepted}
 use Rattle.list_format.specs.declared.Verdict.the-variants.{Accepted}
 use Rattle.list_format.specs.declared.Verdict.the-variants.{Refused as ListRefused}
-use Rattle.list_format.proofs.ListLaws.{refused→fault, accepted→none}
+use Rattle.list_format.proofs.ListLaws.{refused→fault, accepted→none, none→accepted, usable-list}
 use Rattle.split_laws.specs.Split.{timeOf, timings, works, firstSplit}
 use Rattle.split_laws.proofs.TimingsLaws.{two-timings, timings-below}
 use Rattle.split_laws.proofs.FoundLaws.{found-works, none-works}
@@ -72,7 +72,7 @@ module _ (ws : List ℕ) (period offset : ℕ) (answer scratch : List ℕ) where
         let k : scratchPlaces (registers ws) (pairCount ws) ≤ length scratch = ltb-false _ _ (p .1 .1 .1 .1 .0) in
         record {
           none = pass-both (listChecks ws) call (a .none) (sym fault-is ∙ g);
-          lent = record { list = a .list; room = omega (arith, a .list .registersAre, a .list .pairsAre) };
+          lent = record { list = usable-list ws (a .list); room = omega (arith, a .list .registersAre, a .list .pairsAre) };
           room = omega (arith, a .list .registersAre);
           from = omega (arith, eqb-false period 0 (p .0));
           upto = ltb-false _ _ (p .1 .0);
@@ -112,6 +112,9 @@ module _ (ws : List ℕ) (period offset : ℕ) (answer scratch : List ℕ) where
 
       -- the split found works, and passes a check
       module _ (e : r ≡ true) where
+        accepted : IsAccepted ws
+        accepted = none→accepted ws (both-pass (listChecks ws) _ (a .none) .0)
+
         split-works : WorksAs ws period offset (timings offset (splitOf (take n S)))
         unfolding works
         split-works =
@@ -123,7 +126,7 @@ module _ (ws : List ℕ) (period offset : ℕ) (answer scratch : List ℕ) where
               size = size;
               two = two-timings offset c;
               meets = has .0;
-              passes = admissible-passes ws period (timings offset c) (a .lent .list .accepted) (a .from) (a .upto) size limit (has .0);
+              passes = admissible-passes ws period (timings offset c) accepted (a .from) (a .upto) size limit (has .0);
             }
 
         pub split-shown : {answer′ : List ℕ} → answer′ ≡ over (timings offset (splitOf (take n S))) answer

@@ -168,7 +168,7 @@ fn put_head(n: u32, m: usize, needs: &[u32], count: usize, answer: &mut [u32])
 }
 
 // The three words of a pair, stored from `at` on.
-fn put(answer: &mut [u32], at: usize, p: Pair)
+pub fn put(answer: &mut [u32], at: usize, p: Pair)
     requires { ⌜ (at + 3 ≤ length (now answer)) × FitsWords p ⌝ }
     ensures { λ _. ⌜ now (answer .exit) ≡ take at (now (answer .entry)) ++ (threeOf p ++ drop (at + 3) (now (answer .entry))) ⌝ }
 {

@@ -3,6 +3,7 @@
 use Prim.Native.Nat.{_-_}
 use mathlib.Core.Path.{sym, _∙_}
 use native.Mathlib.Omega.{arith}
+use Rattle.list_format.proofs.ListLaws.{pair-in}
 use Rattle.checker.proofs.CheckLaws.{Looked, looked-start, looked-turn, looked-end}
 use borrow.Author.Needs.{needs}
 use Rattle.checker.proofs.first_broken.Statement.{statement}
@@ -17,7 +18,7 @@ abbrev μ-loop : tie.MeasureT-loop
 meets-requires : tie.Need-meets-requires Inv-loop μ-loop
 meets-requires c κs =
     let ready = c .before .before .before .before .pre in
-    (record { accepted = ready .accepted; below = omega arith }, ready .registersAre)
+    (pair-in _ ready (omega arith), ready .registersAre)
 
 loop-again : tie.Need-loop-again Inv-loop μ-loop
 loop-again c = looked-turn (c .before .before .before .loop .inv) (omega arith) (sym (c .before .meets .ensures) ∙ c .if1 .taken)

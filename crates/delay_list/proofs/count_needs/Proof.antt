@@ -1,9 +1,9 @@
--- By the second word; the word of needs of a register stands in an accepted list, and its hold is at most the least delay.
+-- By the second word; the word of needs of a register stands in the list, and with it counted in the pair is in range.
 use Prim.Native.Nat.{_<_}
 use native.Mathlib.Omega.{arith}
 use Rattle.list_format.specs.Lists.{needWords}
-use Rattle.list_format.proofs.ListLaws.{accepted-in, none-below, needs-from}
-use Rattle.list_format.proofs.NeedsLaws.{hold-at, counting-none, counting-at}
+use Rattle.list_format.proofs.ListLaws.{stands, none-below, needs-from}
+use Rattle.list_format.proofs.NeedsLaws.{hold-at, setup-at, counting-none, counting-at}
 use borrow.Author.Needs.{needs}
 use Rattle.delay_list.proofs.count_needs.Statement.{statement}
 use Rattle.delay_list.proofs.count_needs.Tie as tie
@@ -11,7 +11,7 @@ use Rattle.delay_list.proofs.count_needs.Tie as tie
 shared-slice-read-if1 : tie.Need-shared-slice-read-if1
 shared-slice-read-if1 c =
     let s = c .before .before in
-    omega (arith, accepted-in (s .args .words .now) (s .pre .0 .accepted) .head .size)
+    omega (arith, stands (s .args .words .now) (s .args .k) (s .pre .0))
 
 need-at-requires : tie.Need-need-at-requires
 need-at-requires c κs =
@@ -19,7 +19,7 @@ need-at-requires c κs =
     let ws = s .args .words .now in
     let v = s .pre .1 .values in
     let all = needs-from ws (s .args .k) (s .pre .0) (c .if1 .taken) in
-    omega (arith, accepted-in ws (s .pre .0 .accepted) .head .size, v .launch, v .capture, all)
+    omega (arith, stands ws (s .args .k) (s .pre .0), v .capture, all)
 
 with-needs-requires : tie.Need-with-needs-requires
 with-needs-requires c κs =
@@ -28,8 +28,7 @@ with-needs-requires c κs =
     let w = s .pre .1 in
     let all = needs-from ws (s .args .k) (s .pre .0) (c .before .if1 .taken) in
     let below : s .args .p .capture < needWords ws = omega (arith, w .values .capture, all) in
-    let same = hold-at ws below in
-    (rw (c .need-at .ensures) (omega (arith, same, w .holds)), (w .values .order, w .values .limit))
+    rw (c .need-at .ensures) (rw (hold-at ws below) at (w .holds), rw (setup-at ws below) at (w .values .limit))
 
 returns : tie.Need-returns
 returns c =

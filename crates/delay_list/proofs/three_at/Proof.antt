@@ -1,4 +1,4 @@
--- The three words stand in the list, which was accepted.
+-- The three words stand in the list.
 use native.Mathlib.Omega.{arith}
 use Rattle.list_format.proofs.ListLaws.{stands, is-written}
 use borrow.Author.Needs.{needs}

@@ -26,9 +26,14 @@ returns-4 c =
     let q = c .before .before .before .before .before .before .before .pre in
     back-stop (q .0) (q .1 .0) (q .1 .1)
 
+returns-5 : tie.Need-returns-5
+returns-5 c =
+    let q = c .before .before .pre in
+    back-stop (q .0) (q .1 .0) (q .1 .1)
+
 pub along-spec : {M : Type 1} → statement M
 along-spec =
     tie.close
     (tie.spec
     (λ c. search needs) (λ c κs. search needs) (λ c. search needs) (λ c. search needs) (λ c. search needs) returns
-    (λ c. search needs) (λ c. search needs) returns-2 returns-3 returns-4 (λ c. search needs))
+    (λ c. search needs) (λ c. search needs) returns-2 returns-3 returns-4 returns-5)

@@ -3,7 +3,7 @@
 use mathlib.Core.Path.{_≡_, refl, _∙_}
 use native.Mathlib.Omega.{arith}
 use lib.ListN.{length}
-use Rattle.list_format.proofs.ListLaws.{still-accepted}
+use Rattle.list_format.proofs.ListLaws.{still-usable}
 use borrow.Author.Needs.{needs}
 use Rattle.free_descent.proofs.descend.Statement.{statement}
 use Rattle.free_descent.proofs.descend.Tie as tie
@@ -18,14 +18,14 @@ abbrev μ-loop : tie.MeasureT-loop
 first-keys-requires : tie.Need-first-keys-requires Inv-loop μ-loop
 first-keys-requires c κs =
     let p = c .before .before .before .before .before .before .before .before .before .before .pre in
-    (p .accepted, p .pairsAre)
+    (p .usable, p .pairsAre)
 
 turn-requires : tie.Need-turn-requires Inv-loop μ-loop
 turn-requires c κs =
     let l = c .before .before .before .before .before .before .before in
     let p′ = l .before .before .before .before .before .before .before .before .before .before .before .before .before .before in
     let p = p′ .before .pre in
-    still-accepted (l .loop .inv ∙ l .before .before .before .before .before .before .before .before .set-apart .kept .0) p
+    still-usable (l .loop .inv ∙ l .before .before .before .before .before .before .before .before .set-apart .kept .0) p
 
 loop-less : tie.Need-loop-less Inv-loop μ-loop
 loop-less c =
@@ -42,7 +42,7 @@ closed-requires c κs =
     let l = c .before .before .before in
     let p′ = l .before .before .before .before .before .before .before .before .before .before .before .before .before .before in
     let p = p′ .before .pre in
-    still-accepted (l .loop .inv ∙ l .before .before .before .before .before .before .before .before .set-apart .kept .0) p
+    still-usable (l .loop .inv ∙ l .before .before .before .before .before .before .before .before .set-apart .kept .0) p
 
 same-length : tie.Need-same-length Inv-loop μ-loop
 same-length c =

@@ -7,7 +7,8 @@ use Rattle.free_schedule.proofs.answer_by.Tie as tie
 returns : tie.Need-returns
 returns c =
     let m = c .before .before .before .before .before .before in
-    settled (m .before .before .before .before .before .before .before .before .before .pre) (m .common .ensures) (c .before .before .fill .ensures)
+    let pre = m .before .before .before .before .before .before .before .before .before .pre in
+    settled (pre .1) (pre .0) (m .common .ensures) (c .before .before .fill .ensures)
 
 pub answer-by-spec : {M : Type 1} → statement M
 answer-by-spec =
