@@ -5,8 +5,8 @@ use Prim.Native.Nat.{ℕ, suc, _+_, _-_, _*_, _≤_, _<_}
 use native.Mathlib.Nat.{mul-le-mul-left, mul-suc}
 use native.Mathlib.Numerals.{add-one}
 use native.Mathlib.Omega.{arith}
-use lib.ListN.{length, take, drop, set, length-append, length-drop, take-append-drop}
-use lib.Seq.{length-take-le, take-at, drop-append-add, drop-drop, set-split, sets, sets-eq}
+use lib.ListN.{length, getD, take, drop, set, length-append, length-drop, take-append-drop}
+use lib.Seq.{length-take-le, take-at, getD-append-add, getD-drop, drop-append-add, drop-drop, set-split, sets, sets-eq}
 use Rattle.buffers.specs.Run.{run}
 use Rattle.buffers.specs.Over.{over}
 use Rattle.buffers.proofs.RunLaws.{run-length}
@@ -29,6 +29,16 @@ module _ {xs was now : List ℕ} (f : Filled xs was now) where
   -- the buffer keeps its length
   pub filled-size : length now ≡ length was
   filled-size = rw (f .is, length-append, length-drop) (omega (arith, f .room))
+
+  -- the places behind are as they were
+  pub filled-later : (i : ℕ) → length xs ≤ i → getD now i 0 ≡ getD was i 0
+  filled-later i h =
+      let place : i ≡ length xs + (i - length xs) = omega arith in
+      ap (λ (ys : List ℕ). getD ys i 0) (f .is)
+      ∙ ap (λ k. getD (over xs was) k 0) place
+      ∙ getD-append-add xs (drop (length xs) was) (i - length xs) 0
+      ∙ getD-drop (length xs) was (i - length xs) 0
+      ∙ ap (λ k. getD was k 0) (sym place)
 
   -- one stretch more, stored at the place reached
   pub filled-put : (vs after : List ℕ) {at : ℕ} → at ≡ length xs → at + length vs ≤ length was

@@ -9,12 +9,13 @@ use native.Mathlib.Nat.{le-trans}
 use native.Mathlib.Omega.{arith}
 use borrow.Author.Tests.{ltb-false}
 use lib.ListN.{length, take, drop, replicate, length-append, length-drop, length-replicate}
-use lib.Seq.{length-take-le, take-at, drop-at}
+use lib.Seq.{length-take-le, take-at, drop-at, drop-drop}
+use Rattle.timing.specs.Rules.{Each, InRange}
 use Rattle.timing.specs.Limits.{maxTiming, scratchPlaces}
 use Rattle.buffers.specs.Over.{over}
 use Rattle.buffers.proofs.FillLaws.{Filled, filled-put, drop-further}
 use Rattle.refusals.specs.Checks.{firstFault}
-use Rattle.refusals.specs.Reply.{refused, done, replyOf, bufferAfter, scratchAfter}
+use Rattle.refusals.specs.Reply.{numbers, refused, done, replyOf, bufferAfter, scratchAfter}
 use Rattle.refusals.specs.declared.Fault.{Fault}
 use Rattle.refusals.specs.declared.Fault.the-variants.{None, At}
 use Rattle.refusals.proofs.CheckLaws.{pass-both, both-pass, passed}
@@ -42,7 +43,9 @@ use Rattle.plan_laws.proofs.TwoLaws.{two-common}
 use Rattle.plan_laws.proofs.UnbeatenLaws.{plan-unbeaten}
 use Rattle.reach.specs.Settling.{Reached}
 use Rattle.planner.specs.declared.Planning.the-variants.{Planned, Refused}
-use Rattle.planner.specs.PlanCall.{planCallChecks, planChecks, planning, planReply, PlanAs, PlanAllowed, TwoIn}
+use Rattle.planner.specs.declared.Planning.{Planning}
+use Rattle.planner.specs.PlanCall.{planCallChecks, planChecks, planNumbers, planTimings, planning, planReply, PlanAs, PlanAllowed}
+use Rattle.planner.specs.PlanCall.{PlanRoom, PlanIn, TwoIn}
 
 -- ---- a refusal changes nothing
 
@@ -99,83 +102,7 @@ module _ (ws : List ℕ) {top two : ℕ} (e : top ≡ common (pairs ws)) (p : tw
   unfolding twoOffset
   offset-is = rw (e, p)
 
--- ---- an allowed call
-
-pub allowed-kept : {ws : List ℕ} {n m room room′ spare spare′ : ℕ} → PlanAllowed ws n m room spare → room′ ≡ room → spare′ ≡ spare
-    → PlanAllowed ws n m room′ spare′
-allowed-kept a e f = rw (e, f) a
-
-module _ {ws : List ℕ} {n m room spare : ℕ} (a : PlanAllowed ws n m room spare) where
-  -- the first n places of the scratch, lent
-  module _ (scratch : List ℕ) (e : length scratch ≡ spare) where
-    pub lent-size : length (take n scratch) ≡ n
-    lent-size = length-take-le n scratch (omega (arith, a .scratches))
-
-    pub lent-ready : UsableList ws (length (take n scratch)) m
-    lent-ready = still-usable lent-size (a .list)
-
-  -- ---- the free period
-
-  -- by a copy of the list with its needs counted in, in the scratch
-  module _ (scratch : List ℕ) (e : length scratch ≡ spare) where
-    countable : Countable ws m scratch
-    countable =
-        let l = a .list in
-        record { usable = l .usable; pairsAre = l .pairsAre; room = omega (arith, a .scratches, l .registersAre, some-registers ws l) }
-
-    module _ {S : List ℕ} (s : S ≡ over (countedIn ws) scratch) where
-      pub counted-roomy : {answer : List ℕ} → length answer ≡ room → Roomy S n m answer
-      counted-roomy f = rw s (record { list = counted-usable countable (a .list .registersAre); room = omega (arith, a .answers) })
-
-      counted-same : pairs S ≡ pairs ws
-      counted-same = ap pairs s ∙ counted-pairs countable
-
-      pub counted-free : {answer answer′ : List ℕ} {free : ℕ} → FreeIn S answer answer′ free → FreeIn ws answer answer′ free
-      counted-free f =
-          let same : registers S ≡ registers ws = ap registers s in
-          record { period = rw (same, counted-same) at (f .period); places = rw (same, counted-same) at (f .places) }
-
-      pub counted-rest : drop (scratchPlaces n m) S ≡ drop (scratchPlaces n m) scratch
-      counted-rest =
-          let size = counted-length ws in
-          drop-further (length (countedIn ws)) (scratchPlaces n m) scratch S (omega (arith, size, a .list .pairsAre))
-          (rw s (drop-at (countedIn ws) _ (length (countedIn ws)) refl))
-
-  -- ---- the two-timing period
-
-  -- the free period bounds it
-  module _ {free : ℕ} (e : free ≡ freePeriod (registers ws) (pairs ws)) where
-    pub free-pos : 1 ≤ free
-    free-pos = omega (arith, e, period-pos (registers ws) (pairs ws) (pairs-in-range ws (a .list .usable)))
-
-    pub free-bound : Bound (pairs ws) (free - 1 + 1)
-    free-bound =
-        let same : free - 1 + 1 ≡ freePeriod (registers ws) (pairs ws) = omega (arith, e, free-pos) in
-        rw same (bound-free (registers ws) (pairs ws) (pairs-in-range ws (a .list .usable)))
-
-  module _ {top two : ℕ} (e : top ≡ common (pairs ws)) {W : List ℕ} (r : Reached ws W two) where
-    -- the reaches come back in the first n places, and the split is read from them
-    pub two-filled : (scratch answer : List ℕ) {answer′ : List ℕ}
-        → answer′ ≡ over (take n answer ++ timings (top - two) (lateAbove two (take n (W ++ drop n scratch)))) answer
-        → TwoIn ws n answer answer′ scratch (W ++ drop n scratch) two
-    two-filled scratch answer stored =
-        let size : length W ≡ n = r .size ∙ sym (a .list .registersAre) in
-        let front : take n (W ++ drop n scratch) ≡ W = take-at W (drop n scratch) n size in
-        record {
-          period = r .period;
-          places = stored ∙ ap (λ (ts : List ℕ). over (take n answer ++ ts) answer) (rw (front, offset-is ws e (r .period)) (sym (r .split)));
-          rest = drop-at W (drop n scratch) n size;
-        }
-
--- ---- the whole plan
-
--- two parts, stored one after the other
-over-twice : (xs ys buffer : List ℕ) (n : ℕ) → length xs ≡ n → n + length ys ≤ length buffer
-    → over (take n (over xs buffer) ++ ys) (over xs buffer) ≡ over (xs ++ ys) buffer
-over-twice xs ys buffer n e h =
-    let first : Filled xs buffer (over xs buffer) = record { room = omega (arith, e); is = refl } in
-    filled-put first ys (over (take n (over xs buffer) ++ ys) (over xs buffer)) {at = n} (sym e) h
-    (rw (append-assoc, length-append, length-take-le n (over xs buffer) (rw (length-append, length-drop) (omega (arith, e))))) .is
+-- ---- the plan of a list
 
 -- the free timings
 abbrev F : List ℕ → List ℕ
@@ -185,11 +112,85 @@ F ws = freeSchedule (registers ws) (pairs ws)
 abbrev C : List ℕ → List ℕ
 C ws = twoTimings (registers ws) (pairs ws)
 
-module _ (ws answer scratch : List ℕ) {n m : ℕ} (a : PlanAllowed ws n m (length answer) (length scratch)) where
+module _ {ws : List ℕ} {n m : ℕ} (l : UsableList ws n m) where
+  inside : Each (InRange (registers ws)) (pairs ws)
+  inside = pairs-in-range ws (l .usable)
+
   whole : Unbeaten (registers ws) (pairs ws) (common (pairs ws)) (freePeriod (registers ws) (pairs ws))
       (twoPeriod (registers ws) (pairs ws)) (twoOffset (registers ws) (pairs ws)) (F ws) (C ws)
-  whole = plan-unbeaten (registers ws) (pairs ws) (pairs-in-range ws (a .list .usable))
+  whole = plan-unbeaten (registers ws) (pairs ws) inside
 
+  -- the free period bounds the two-timing one
+  module _ {free : ℕ} (e : free ≡ freePeriod (registers ws) (pairs ws)) where
+    pub free-pos : 1 ≤ free
+    free-pos = omega (arith, e, period-pos (registers ws) (pairs ws) inside)
+
+    pub free-bound : Bound (pairs ws) (free - 1 + 1)
+    free-bound =
+        let same : free - 1 + 1 ≡ freePeriod (registers ws) (pairs ws) = omega (arith, e, free-pos) in
+        rw same (bound-free (registers ws) (pairs ws) inside)
+
+-- the reaches give the split's timings
+pub two-in : {ws : List ℕ} {top two : ℕ} {W part : List ℕ} → top ≡ common (pairs ws) → Reached ws W two
+    → part ≡ timings (top - two) (lateAbove two W) → TwoIn ws part two
+two-in {ws} e r s = record { period = r .period; timings = s ∙ rw (offset-is ws e (r .period)) (sym (r .split)) }
+
+module _ {ws : List ℕ} {n m : ℕ} {answer : List ℕ} (a : PlanRoom ws n m answer) where
+  -- room for the free timings
+  pub plan-roomy : Roomy ws n m answer
+  plan-roomy = record { list = a .list; room = omega (arith, a .places) }
+
+  -- the places of the split's timings, lent
+  pub lent-size : (A : List ℕ) → length A ≡ length answer → length (take (2 * n - n) (drop n A)) ≡ n
+  lent-size A e = length-take-le (2 * n - n) (drop n A) (rw length-drop (omega (arith, a .places))) ∙ omega arith
+
+  -- both parts are stored
+  pub plan-in : {top free two : ℕ} {A₁ part : List ℕ} → top ≡ common (pairs ws) → FreeIn ws answer A₁ free → TwoIn ws part two
+      → PlanIn ws answer (take n A₁ ++ (part ++ drop (2 * n - n) (drop n A₁))) (Planned top free two (top - two))
+  unfolding planReply
+  plan-in {A₁ = A₁} {part = part} e f t =
+      let w = whole (a .list) in
+      let sized : length (F ws) ≡ n = w .freely .size ∙ sym (a .list .registersAre) in
+      let first : Filled (F ws) answer A₁ = record { room = omega (arith, sized, a .places); is = f .places } in
+      let width : 2 * n - n ≡ length (C ws) = omega (arith, w .split .size, a .list .registersAre) in
+      record {
+        reply = rw (offset-is ws e (t .period), e, f .period, t .period);
+        stored = filled-put first (C ws) (take n A₁ ++ (part ++ drop (2 * n - n) (drop n A₁))) {at = n} (sym sized)
+            (omega (arith, width, a .places)) (rw (t .timings, width, drop-drop)) .is;
+      }
+
+-- ---- an allowed call
+
+module _ {ws : List ℕ} {n m room spare : ℕ} (a : PlanAllowed ws n m room spare) where
+  pub plain-room : {answer : List ℕ} → length answer ≡ room → PlanRoom ws n m answer
+  plain-room e = record { list = a .list; places = omega (arith, a .answers) }
+
+  -- a copy of the list with its needs counted in, in the scratch
+  module _ (scratch : List ℕ) (e : length scratch ≡ spare) where
+    countable : Countable ws m scratch
+    countable =
+        let l = a .list in
+        record { usable = l .usable; pairsAre = l .pairsAre; room = omega (arith, a .scratches, l .registersAre, some-registers ws l) }
+
+    module _ {S : List ℕ} (s : S ≡ over (countedIn ws) scratch) where
+      pub counted-room : {answer : List ℕ} → length answer ≡ room → PlanRoom S n m answer
+      counted-room f = rw s (record { list = counted-usable countable (a .list .registersAre); places = omega (arith, a .answers) })
+
+      -- its plan is the plan of the list
+      pub counted-plan : {answer answer′ : List ℕ} {r : Planning} → PlanIn S answer answer′ r → PlanIn ws answer answer′ r
+      counted-plan p =
+          let registered : registers S ≡ registers ws = ap registers s in
+          let paired : pairs S ≡ pairs ws = ap pairs s ∙ counted-pairs countable in
+          record { reply = rw (registered, paired) at (p .reply); stored = rw (registered, paired) at (p .stored) }
+
+      pub counted-rest : drop (scratchPlaces n m) S ≡ drop (scratchPlaces n m) scratch
+      counted-rest =
+          drop-further (length (countedIn ws)) (scratchPlaces n m) scratch S (omega (arith, counted-length ws, a .list .pairsAre))
+          (rw s (drop-at (countedIn ws) _ (length (countedIn ws)) refl))
+
+-- ---- the whole call
+
+module _ (ws answer scratch : List ℕ) {n m : ℕ} (a : PlanAllowed ws n m (length answer) (length scratch)) where
   accepted : IsAccepted ws
   accepted = none→accepted ws (both-pass (listChecks ws) _ (a .none) .0)
 
@@ -197,56 +198,53 @@ module _ (ws answer scratch : List ℕ) {n m : ℕ} (a : PlanAllowed ws n m (len
   two-passes : Passes ws (twoPeriod (registers ws) (pairs ws)) (C ws)
   unfolding twoOffset
   two-passes =
+      let w = whole (a .list) in
       let upto = common-upto (a .list) in
-      let limit = timings-below maxTiming (twoOffset (registers ws) (pairs ws)) (whole .split .split) (omega arith) in
-      admissible-passes ws _ (C ws) accepted (whole .split .fromOne) (le-trans (whole .commonLast) upto) (whole .split .size)
-      (λ r. rw (whole .split .shown) (limit r)) (whole .split .meets)
+      let limit = timings-below maxTiming (twoOffset (registers ws) (pairs ws)) (w .split .split) (omega arith) in
+      admissible-passes ws _ (C ws) accepted (w .split .fromOne) (le-trans (w .commonLast) upto) (w .split .size)
+      (λ r. rw (w .split .shown) (limit r)) (w .split .meets)
 
-  outcome : planning ws (length answer) (length scratch)
-      ≡ done
-      (common (pairs ws) ∷ freePeriod (registers ws) (pairs ws) ∷ twoPeriod (registers ws) (pairs ws) ∷ twoOffset (registers ws) (pairs ws) ∷ [])
-      ((F ws) ++ (C ws))
+  outcome : planning ws (length answer) (length scratch) ≡ done (planNumbers ws) (planTimings ws)
   unfolding planning
   outcome = answered-done (planChecks ws (length answer) (length scratch)) _ (a .none)
 
-  module _ {top free two : ℕ} {A₁ A₂ S₀ S₁ S₂ : List ℕ} (e : top ≡ common (pairs ws)) (f : FreeIn ws answer A₁ free)
-      (rest : drop (scratchPlaces n m) S₀ ≡ drop (scratchPlaces n m) scratch) (t : TwoIn ws n A₁ A₂ S₀ S₁ two) (cleared : S₂ ≡ replicate (scratchPlaces n m) 0 ++ drop (scratchPlaces n m) S₁) where
-    stored : A₂ ≡ over ((F ws) ++ (C ws)) answer
-    stored =
-        t .places ∙ ap (λ (x : List ℕ). over (take n x ++ (C ws)) x) (f .places)
-        ∙ over-twice (F ws) (C ws) answer n (whole .freely .size ∙ sym (a .list .registersAre))
-        (omega (arith, whole .split .size, a .list .registersAre, a .answers))
+  -- the scratch is left zero
+  pub left-zero : {S : List ℕ} (used : List ℕ) → drop (scratchPlaces n m) used ≡ drop (scratchPlaces n m) scratch
+      → S ≡ replicate (scratchPlaces n m) 0 ++ drop (scratchPlaces n m) used
+      → S ≡ over (replicate (scratchPlaces (registers ws) (pairCount ws)) 0) scratch
+  left-zero used rest cleared = cleared ∙ rw (rest, length-replicate, a .list .registersAre, a .list .pairsAre)
 
-    zeros : S₂ ≡ over (replicate (scratchPlaces (registers ws) (pairCount ws)) 0) scratch
-    zeros =
-        cleared
-        ∙ ap (λ (x : List ℕ). replicate (scratchPlaces n m) 0 ++ x) (drop-further n (scratchPlaces n m) S₀ S₁ (omega arith) (t .rest) ∙ rest)
-        ∙ rw (length-replicate, a .list .registersAre, a .list .pairsAre)
+  module _ {A S : List ℕ} {r : Planning} (p : PlanIn ws answer A r)
+      (zeros : S ≡ over (replicate (scratchPlaces (registers ws) (pairCount ws)) 0) scratch) where
+    front : take (registers ws) A ≡ F ws
+    front = ap (take (registers ws)) (p .stored ∙ append-assoc (F ws) (C ws) _) ∙ take-at (F ws) _ (registers ws) (whole (a .list) .freely .size)
 
-    front : take (registers ws) A₂ ≡ (F ws)
-    front = ap (take (registers ws)) (stored ∙ append-assoc (F ws) (C ws) _) ∙ take-at (F ws) _ (registers ws) (whole .freely .size)
-
-    behind : take (registers ws) (drop (registers ws) A₂) ≡ (C ws)
+    behind : take (registers ws) (drop (registers ws) A) ≡ C ws
     behind =
-        ap (λ (x : List ℕ). take (registers ws) (drop (registers ws) x)) (stored ∙ append-assoc (F ws) (C ws) _)
-        ∙ ap (take (registers ws)) (drop-at (F ws) _ (registers ws) (whole .freely .size))
-        ∙ take-at (C ws) _ (registers ws) (whole .split .size)
+        ap (λ (x : List ℕ). take (registers ws) (drop (registers ws) x)) (p .stored ∙ append-assoc (F ws) (C ws) _)
+        ∙ ap (take (registers ws)) (drop-at (F ws) _ (registers ws) (whole (a .list) .freely .size))
+        ∙ take-at (C ws) _ (registers ws) (whole (a .list) .split .size)
 
-    pub planned : PlanAs ws answer A₂ scratch S₂ (Planned top free two (top - two))
-    unfolding replyOf bufferAfter scratchAfter planReply
+    -- the numbers returned are those of the plan
+    told : {c f t o : ℕ} → r ≡ Planned c f t o
+        → (c ≡ common (pairs ws)) × ((f ≡ freePeriod (registers ws) (pairs ws))
+        × ((t ≡ twoPeriod (registers ws) (pairs ws)) × (o ≡ twoOffset (registers ws) (pairs ws))))
+    unfolding planReply
+    told {c} {f} {t} {o} q =
+        let said : numbers (c ∷ f ∷ t ∷ o ∷ []) ≡ numbers (planNumbers ws) = sym (ap planReply q) ∙ p .reply in
+        (cc, (cc, (cc, cc)))
+
+    pub planned : PlanAs ws answer A scratch S r
+    unfolding replyOf bufferAfter scratchAfter
     planned =
         record {
-          reply = rw (outcome, offset-is ws e (t .period), e, f .period, t .period);
-          stored = rw outcome stored;
+          reply = rw outcome (p .reply);
+          stored = rw outcome (p .stored);
           left = rw outcome zeros;
-          unbeaten = λ c₁ f₁ t₁ o₁ q.
-              let ec : c₁ ≡ top = cc in
-              let ef : f₁ ≡ free = cc in
-              let et : t₁ ≡ two = cc in
-              let eo : o₁ ≡ top - two = cc in
-              rw (ec ∙ e, ef ∙ f .period, et ∙ t .period, eo ∙ offset-is ws e (t .period), front, behind) whole;
-          passes = λ c₁ f₁ t₁ o₁ q.
-              let ef : f₁ ≡ free = cc in
-              let et : t₁ ≡ two = cc in
-              (passes-as ws (ef ∙ f .period) front (free-passes (a .list) accepted), passes-as ws (et ∙ t .period) behind two-passes);
+          unbeaten = λ c f t o q.
+              let are = told q in
+              rw (are .0, are .1 .0, are .1 .1 .0, are .1 .1 .1, front, behind) (whole (a .list));
+          passes = λ c f t o q.
+              let are = told q in
+              (passes-as ws (are .1 .0) front (free-passes (a .list) accepted), passes-as ws (are .1 .1 .0) behind two-passes);
         }

@@ -28,13 +28,17 @@ planCallChecks n m room spare =
 abbrev pub planChecks : List ℕ → ℕ → ℕ → List Check
 planChecks ws room spare = listChecks ws ++ planCallChecks (registers ws) (pairCount ws) room spare
 
--- three periods and the offset are returned; the free timings fill n places, the split's timings the next n
+-- what is returned: three periods and the offset
+abbrev pub planNumbers : List ℕ → List ℕ
+planNumbers ws =
+    common (pairs ws) ∷ freePeriod (registers ws) (pairs ws) ∷ twoPeriod (registers ws) (pairs ws) ∷ twoOffset (registers ws) (pairs ws) ∷ []
+
+-- what is stored: the free timings fill n places, the split's timings the next n
+abbrev pub planTimings : List ℕ → List ℕ
+planTimings ws = freeSchedule (registers ws) (pairs ws) ++ twoTimings (registers ws) (pairs ws)
+
 unfoldable pub planning : List ℕ → ℕ → ℕ → Outcome
-planning ws room spare =
-    answered (planChecks ws room spare)
-    (done
-    (common (pairs ws) ∷ freePeriod (registers ws) (pairs ws) ∷ twoPeriod (registers ws) (pairs ws) ∷ twoOffset (registers ws) (pairs ws) ∷ [])
-    (freeSchedule (registers ws) (pairs ws) ++ twoTimings (registers ws) (pairs ws)))
+planning ws room spare = answered (planChecks ws room spare) (done (planNumbers ws) (planTimings ws))
 
 -- the number and values of each case of the answer
 unfoldable pub planReply : Planning → Reply
@@ -62,8 +66,19 @@ pub record PlanAllowed (ws : List ℕ) (n m room spare : ℕ) : Type 0 where
   pub answers : 2 * n ≤ room
   pub scratches : scratchPlaces n m ≤ spare
 
--- the two-timing period, with the split's timings in the n places from place n on; the scratch is used up to place n
-pub record TwoIn (ws : List ℕ) (n : ℕ) (answer answer′ scratch scratch′ : List ℕ) (two : ℕ) : Type 0 where
+-- ---- the plan of a list, whatever the call
+
+-- a list with n registers and m pairs, and 2n places
+pub record PlanRoom (ws : List ℕ) (n m : ℕ) (answer : List ℕ) : Type 0 where
+  pub list : UsableList ws n m
+  pub places : 2 * n ≤ length answer
+
+-- the plan is returned, with its timings in the first 2n places
+pub record PlanIn (ws answer answer′ : List ℕ) (r : Planning) : Type 0 where
+  pub reply : planReply r ≡ numbers (planNumbers ws)
+  pub stored : answer′ ≡ over (planTimings ws) answer
+
+-- the two-timing period, with the split's timings in the places lent for them
+pub record TwoIn (ws part : List ℕ) (two : ℕ) : Type 0 where
   pub period : two ≡ twoPeriod (registers ws) (pairs ws)
-  pub places : answer′ ≡ over (take n answer ++ twoTimings (registers ws) (pairs ws)) answer
-  pub rest : drop n scratch′ ≡ drop n scratch
+  pub timings : part ≡ twoTimings (registers ws) (pairs ws)

@@ -3,11 +3,10 @@
 ghost use mathlib.Core.Path.{_≡_};
 ghost use lib.ListN.{length, drop};
 ghost use Rattle.refusals.specs.Checks.{firstFault};
-ghost use Rattle.planner.specs.PlanCall.{planCallChecks, PlanAllowed, TwoIn, PlanAs};
-ghost use Rattle.list_format.specs.Lists.{registers, pairs};
+ghost use Rattle.planner.specs.PlanCall.{planCallChecks, PlanAllowed, PlanRoom, PlanIn, TwoIn, PlanAs};
+ghost use Rattle.list_format.specs.Lists.{registers, pairs, UsableList};
 ghost use Rattle.timing.specs.Limits.{scratchPlaces};
 ghost use Rattle.free_laws.specs.Free.{common as commonOf, freePeriod};
-ghost use Rattle.free_schedule.specs.FreeCall.{FreeIn};
 use list_format::Verdict;
 use pair_ends::ENDS;
 use pair_ends::FEW_ENDS;
@@ -32,84 +31,89 @@ fn call_fault(n: u32, m: u32, room: usize, spare: usize) -> Fault
         .or(spare < need, 1, 0)
 }
 
-// The free period of an accepted list; the free schedule fills n places of the answer. Words of needs are counted into a copy of the
-// list first, in the scratch, so that the search takes its pairs with no look at needs.
-fn fill_free(
-    words: &[u32],
-    n: usize,
-    m: usize,
-    lasts: &[u16; REGISTERS],
-    before: &[u16],
-    answer: &mut [u32],
-    scratch: &mut [u32],
-) -> u32
-    requires { ⌜ PlanAllowed (now words) n m (length (now answer)) (length (now scratch)) ⌝ }
-    ensures free { λ r. ⌜ FreeIn (now (words .entry)) (now (answer .entry)) (now (answer .exit)) r ⌝ }
-    ensures rest { λ r. ⌜ drop (scratchPlaces n m) (now (scratch .exit)) ≡ drop (scratchPlaces n m) (now (scratch .entry)) ⌝ }
-{
-    if delay_list::need_count(words) == 0 {
-        return free_schedule::fill(words, n, m, lasts, before, answer);
-    }
-    counted_list::count_in(words, m, scratch);
-    free_schedule::fill(scratch, n, m, lasts, before, answer)
-}
-
-// The two-timing period of an accepted list with that common and that free period; the split's timings fill n places from
-// place n on. The first n places of the scratch are used. The ends of the pairs at each register are a hint.
+// The two-timing period of a list with that common and that free period; the split's timings fill the places lent, one for each
+// register, where the reaches stand until then. The ends of the pairs at each register are a hint.
 fn fill_split(
     words: &[u32],
-    n: usize,
     m: usize,
     common: u32,
     free: u32,
     lasts: &[u16; REGISTERS],
     before: &[u16],
-    answer: &mut [u32],
-    scratch: &mut [u32],
+    part: &mut [u32],
 ) -> u32
-    requires { ⌜ PlanAllowed (now words) n m (length (now answer)) (length (now scratch)) × (common ≡ commonOf (pairs (now words)))
+    requires { ⌜ UsableList (now words) (length (now part)) m × (common ≡ commonOf (pairs (now words)))
         × (free ≡ freePeriod (registers (now words)) (pairs (now words))) ⌝ }
-    ensures { λ r. ⌜ TwoIn (now (words .entry)) n (now (answer .entry)) (now (answer .exit)) (now (scratch .entry)) (now (scratch .exit)) r ⌝ }
+    ensures { λ r. ⌜ TwoIn (now (words .entry)) (now (part .exit)) r ⌝ }
 {
-    let two = reach::two_period(words, m, common, free - 1, lasts, before, &mut scratch[..n]);
-    reach::write_split(scratch, n, two, common - two, answer);
+    let two = reach::two_period(words, m, common, free - 1, lasts, before, part);
+    reach::write_split(part, two, common - two);
     two
 }
 
-// The plan of an accepted list with n registers and m pairs; the ends of its pairs fill the places lent, and the scratch is left zero.
-fn plan_by(
-    words: &[u32],
-    n: usize,
-    m: usize,
-    before: &mut [u16],
-    answer: &mut [u32],
-    scratch: &mut [u32],
-) -> Planning
-    requires { ⌜ PlanAllowed (now words) n m (length (now answer)) (length (now scratch)) ⌝ }
-    ensures { λ r. ⌜ PlanAs (now (words .entry)) (now (answer .entry)) (now (answer .exit)) (now (scratch .entry)) (now (scratch .exit)) r ⌝ }
+// The plan of a list with n registers and m pairs; the ends of its pairs fill the places lent.
+fn plan_by(words: &[u32], n: usize, m: usize, before: &mut [u16], answer: &mut [u32]) -> Planning
+    requires { ⌜ PlanRoom (now words) n m (now answer) ⌝ }
+    ensures { λ r. ⌜ PlanIn (now (words .entry)) (now (answer .entry)) (now (answer .exit)) r ⌝ }
 {
     let mut lasts = [0u16; REGISTERS];
-    let end = timing::scratch_places(n, m);
     pair_ends::link(words, m, &mut lasts, before);
     let common = free_climb::common(words, m);
-    let free = fill_free(words, n, m, &lasts, before, answer, scratch);
-    let two = fill_split(words, n, m, common, free, &lasts, before, answer, scratch);
-    buffers::clear(scratch, end);
+    let free = free_schedule::fill(words, n, m, &lasts, before, answer);
+    let two = fill_split(
+        words,
+        m,
+        common,
+        free,
+        &lasts,
+        before,
+        &mut answer[n..2 * n],
+    );
     let offset = common - two;
     Planning::Planned(common, free, two, offset)
 }
 
 // The same with places for the ends of few pairs, or for those of the most.
+fn plan_list(words: &[u32], n: usize, m: usize, answer: &mut [u32]) -> Planning
+    requires { ⌜ PlanRoom (now words) n m (now answer) ⌝ }
+    ensures { λ r. ⌜ PlanIn (now (words .entry)) (now (answer .entry)) (now (answer .exit)) r ⌝ }
+{
+    if m <= FEW_PAIRS {
+        let mut few = [NONE; FEW_ENDS];
+        return plan_by(words, n, m, &mut few, answer);
+    }
+    let mut before = [NONE; ENDS];
+    plan_by(words, n, m, &mut before, answer)
+}
+
+// The plan of an accepted list. Where it has words of needs they are counted into a copy of it first, in the scratch, which is
+// planned in its place: so a pair is taken with no look at its needs.
+fn plan_counted(
+    words: &[u32],
+    n: usize,
+    m: usize,
+    answer: &mut [u32],
+    scratch: &mut [u32],
+) -> Planning
+    requires { ⌜ PlanAllowed (now words) n m (length (now answer)) (length (now scratch)) ⌝ }
+    ensures plan { λ r. ⌜ PlanIn (now (words .entry)) (now (answer .entry)) (now (answer .exit)) r ⌝ }
+    ensures rest { λ r. ⌜ drop (scratchPlaces n m) (now (scratch .exit)) ≡ drop (scratchPlaces n m) (now (scratch .entry)) ⌝ }
+{
+    if delay_list::need_count(words) == 0 {
+        return plan_list(words, n, m, answer);
+    }
+    counted_list::count_in(words, m, scratch);
+    plan_list(scratch, n, m, answer)
+}
+
+// The same, and the scratch is left zero.
 fn show(words: &[u32], n: usize, m: usize, answer: &mut [u32], scratch: &mut [u32]) -> Planning
     requires { ⌜ PlanAllowed (now words) n m (length (now answer)) (length (now scratch)) ⌝ }
     ensures { λ r. ⌜ PlanAs (now (words .entry)) (now (answer .entry)) (now (answer .exit)) (now (scratch .entry)) (now (scratch .exit)) r ⌝ }
 {
-    if m <= FEW_PAIRS {
-        let mut few = [NONE; FEW_ENDS];
-        return plan_by(words, n, m, &mut few, answer, scratch);
-    }
-    let mut before = [NONE; ENDS];
-    plan_by(words, n, m, &mut before, answer, scratch)
+    let planned = plan_counted(words, n, m, answer, scratch);
+    buffers::clear(scratch, timing::scratch_places(n, m));
+    planned
 }
 
 // Refusals 11 to 19 of the list, then 2 and 1. Else the three periods and the offset; the free timings fill the first n

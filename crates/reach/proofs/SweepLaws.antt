@@ -9,10 +9,12 @@ use Prim.Native.Nat.{ℕ, suc, _+_, _-_, _*_, _≤_, _<_, max, min, zero-le}
 use native.Mathlib.Nat.{le-refl, sub-zero}
 use native.Mathlib.Omega.{arith}
 use lib.Dec.{ltb}
-use lib.ListN.{length, getD, take, drop, replicate, length-replicate, length-map, drop-of-length-le}
+use lib.ListN.{length, getD, take, drop, set, replicate, length-replicate, length-map, drop-of-length-le}
 use lib.Seq.{ext-getD, getD-take, length-take-le}
 use borrow.Author.Count.{below-more}
 use Rattle.buffers.specs.Run.{run}
+use Rattle.buffers.specs.Over.{over}
+use Rattle.buffers.proofs.FillLaws.{Filling, filled-later, filling-size, filling-turn, filling-end, set-put}
 use Rattle.buffers.proofs.RunLaws.{run-length, run-at}
 use Rattle.timing.specs.declared.Pair.{Pair}
 use Rattle.timing.specs.Limits.{maxPeriod}
@@ -199,18 +201,38 @@ reached {ws} {count} {top} {W} {two} s e =
 abbrev pub times : ℕ → ℕ → List ℕ → ℕ → List ℕ
 times s two W k = timeOf s (ltb two (getD W k 0)) ∷ []
 
-pub split-run : (s two n : ℕ) (W : List ℕ) → n ≤ length W → run (times s two W) n ≡ timings s (lateAbove two (take n W))
-split-run s two n W h = ext-getD 0 _ _ (size ∙ sym sizes) each
+pub split-run : (s two : ℕ) (W : List ℕ) → run (times s two W) (length W) ≡ timings s (lateAbove two W)
+split-run s two W = ext-getD 0 _ _ (size ∙ sym sizes) each
   where
-    size : length (run (times s two W) n) ≡ n
-    size = run-length (times s two W) 1 (λ k. refl) n ∙ omega arith
+    size : length (run (times s two W) (length W)) ≡ length W
+    size = run-length (times s two W) 1 (λ k. refl) (length W) ∙ omega arith
 
-    sizes : length (timings s (lateAbove two (take n W))) ≡ n
-    sizes = length-map (lateAbove two (take n W)) (timeOf s) ∙ length-late two (take n W) ∙ length-take-le n W h
+    sizes : length (timings s (lateAbove two W)) ≡ length W
+    sizes = length-map (lateAbove two W) (timeOf s) ∙ length-late two W
 
-    each : (i : ℕ) → i < length (run (times s two W) n) → getD (run (times s two W) n) i 0 ≡ getD (timings s (lateAbove two (take n W))) i 0
+    each : (i : ℕ) → i < length (run (times s two W) (length W)) → getD (run (times s two W) (length W)) i 0 ≡ getD (timings s (lateAbove two W)) i 0
     each i l =
-        let inside : i < n = omega (arith, size) in
         let e : 1 * i + 0 ≡ i = omega arith in
-        (rw e at (run-at (times s two W) 1 (λ k. refl) n i 0 inside (omega arith)))
-        ∙ sym (time-of s (lateAbove two (take n W)) i ∙ ap (timeOf s) (late-at two (take n W) i ∙ ap (ltb two) (getD-take n W i 0 inside)))
+        (rw e at (run-at (times s two W) 1 (λ k. refl) (length W) i 0 (omega (arith, size)) (omega arith)))
+        ∙ sym (time-of s (lateAbove two W) i ∙ ap (timeOf s) (late-at two W i))
+
+-- those before place i are stored, each from the reach that stood in its place
+pub split-turn : (s two : ℕ) {W W′ : List ℕ} {i v : ℕ} → Filling [] (times s two W) (length W) W W′ i → i < length W′
+    → v ≡ timeOf s (ltb two (getD W′ i 0)) → Filling [] (times s two W) (length W) W (set W′ i v) (i + 1)
+split-turn s two {W} {W′} {i} {v} f h e =
+    let below : i < length W = omega (arith, filling-size f) in
+    let size = run-length (times s two W) 1 (λ k. refl) i in
+    let stood : getD W′ i 0 ≡ getD W i 0 = filled-later (f .filled) i (omega (arith, size)) in
+    filling-turn 1 (λ k. refl) (omega arith) f below i (omega arith)
+    (set-put W′ i v h ∙ ap (λ (u : ℕ). take i W′ ++ ((u ∷ []) ++ drop (i + 1) W′)) (e ∙ ap (λ (u : ℕ). timeOf s (ltb two u)) stood))
+
+-- all of them are stored
+pub split-end : (s two : ℕ) (W W′ : List ℕ) {i : ℕ} → Filling [] (times s two W) (length W) W W′ i → length W′ ≤ i
+    → W′ ≡ timings s (lateAbove two W)
+split-end s two W W′ f h =
+    let all : List ℕ = timings s (lateAbove two W) in
+    let size : length all ≡ length W = length-map (lateAbove two W) (timeOf s) ∙ length-late two W in
+    filling-end f (omega (arith, filling-size f))
+    ∙ ap (λ (ts : List ℕ). over ts W) (split-run s two W)
+    ∙ ap (λ (rest : List ℕ). all ++ rest) (drop-of-length-le W {i = length all} (omega (arith, size)))
+    ∙ append-nil all

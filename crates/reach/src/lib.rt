@@ -3,11 +3,9 @@
 // The contracts cite `specs/Settling.antt`, and the definitions of `plan_laws` (reaches and the plan).
 ghost use mathlib.Core.Path.{_≡_};
 ghost use mathlib.Core.Bool.{_||_};
-ghost use mathlib.Core.List.{_++_};
 ghost use Prim.Native.Nat.{_+_, _≤_, _<_, max, min};
 ghost use lib.Dec.{ltb};
-ghost use lib.ListN.{length, take};
-ghost use Rattle.buffers.specs.Over.{over};
+ghost use lib.ListN.{length};
 ghost use Rattle.list_format.specs.Lists.{pairs, UsableList};
 ghost use Rattle.free_laws.specs.Free.{common};
 ghost use Rattle.free_laws.specs.Constraint.{Bound};
@@ -400,15 +398,13 @@ fn time_of(offset: u32, two: u32, reach: u32) -> u32
     if two < reach { offset } else { 0 }
 }
 
-// The timings of the split that the first n reaches give, put in the n places from place n on.
-pub fn write_split(reach: &[u32], n: usize, two: u32, offset: u32, answer: &mut [u32])
-    requires { ⌜ (n ≤ length (now reach)) × (n + n ≤ length (now answer)) ⌝ }
-    ensures { λ _. ⌜ now (answer .exit)
-        ≡ over (take n (now (answer .entry)) ++ timings offset (lateAbove two (take n (now (reach .entry))))) (now (answer .entry)) ⌝ }
+// The timings of the split that reaches give, in the places of the reaches.
+pub fn write_split(reach: &mut [u32], two: u32, offset: u32)
+    ensures { λ _. ⌜ now (reach .exit) ≡ timings offset (lateAbove two (now (reach .entry))) ⌝ }
 {
     let mut i = 0;
-    while i < n {
-        answer[n + i] = time_of(offset, two, reach[i]);
+    while i < reach.len() {
+        reach[i] = time_of(offset, two, reach[i]);
         i += 1;
     }
 }
