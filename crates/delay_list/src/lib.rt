@@ -8,7 +8,7 @@ ghost use lib.Dec.{ltb};
 ghost use lib.ListN.{length};
 ghost use Rattle.words.specs.Word.{countBits, registerBits, holdOf, setupOf};
 ghost use Rattle.timing.specs.Limits.{maxPeriod};
-ghost use Rattle.refusals.specs.Checks.{firstFault, faultAfter};
+ghost use Rattle.refusals.specs.Checks.{orCheck, firstFault, faultAfter};
 ghost use Rattle.list_format.specs.Lists.{word, registers, pairCount, needWordsBy, needWords, holdAt, setupAt, needsOf, placeBy, pairPlace};
 ghost use Rattle.list_format.specs.Lists.{placeOf, stepOf, pairOf, counting, countingNeeds, noNeeds};
 ghost use Rattle.list_format.specs.Lists.{IsAccepted, PairIn, IsWritten, IsPair, verdict as verdictOf};
@@ -179,6 +179,17 @@ pub fn value_fault(
         .or(p.least < hold, 19, least_at)
 }
 
+// 19 for a pair of the list, after what was found before. The hold is looked up only where nothing was.
+fn hold_fault(words: &[u32], needs: usize, found: Fault, p: Pair, at: usize) -> Fault
+    requires { ⌜ (needs ≡ needWords (now words)) × (needs < length (now words)) ⌝ }
+    ensures { λ r. ⌜ r ≡ orCheck found (ltb (p .least) (holdAt (now (words .entry)) (p .capture)), 19, at) ⌝ }
+{
+    if let Fault::At(number, place) = found {
+        return Fault::At(number, place);
+    }
+    Fault::None.or(p.least < hold_at(words, needs, p.capture), 19, at)
+}
+
 // All checks of pair k.
 fn pair_fault(words: &[u32], needs: usize, n: u32, k: usize) -> Fault
     requires { ⌜ (needs ≡ needWords (now words)) × ((k < 2 ^ countBits) × (pairPlace (now words) k + 3 ≤ length (now words))) ⌝ }
@@ -190,11 +201,11 @@ fn pair_fault(words: &[u32], needs: usize, n: u32, k: usize) -> Fault
     let greatest = words[at + 2];
     let found = kind_fault(pair, least, greatest, at);
     let p = pair_of(pair, least, greatest);
+    let ranged = value_fault(found, n, 0, p, at, at + 1, at + 2);
     if needs == 0 {
-        return value_fault(found, n, 0, p, at, at + 1, at + 2);
+        return ranged;
     }
-    let hold = hold_at(words, needs, p.capture);
-    value_fault(found, n, hold, p, at, at + 1, at + 2)
+    hold_fault(words, needs, ranged, p, at + 1)
 }
 
 // 13 and 17: the end word, which stands at `at`.

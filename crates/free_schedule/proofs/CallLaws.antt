@@ -68,7 +68,8 @@ module _ {ws : List ℕ} {n count : ℕ} {was : List ℕ} (r : Roomy ws n count 
         places = rw (c .schedule, unbeaten-free (r .list) .size, r .list .registersAre);
       }
 
-  done-is : IsAccepted ws → freeing ws (length was) ≡ done (common (pairs ws) ∷ freePeriod (registers ws) (pairs ws) ∷ []) (freeSchedule (registers ws) (pairs ws))
+  done-is : IsAccepted ws
+      → freeing ws (length was) ≡ done (common (pairs ws) ∷ freePeriod (registers ws) (pairs ws) ∷ []) (freeSchedule (registers ws) (pairs ws))
   unfolding freeing
   done-is a =
       let room : registers ws ≤ length was = omega (arith, r .room, r .list .registersAre) in

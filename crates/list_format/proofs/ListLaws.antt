@@ -13,11 +13,11 @@ use Rattle.timing.specs.Rules.{Each, InRange}
 use Rattle.timing.specs.Limits.{maxRegisters, maxPairs, maxDelay, maxNeed, maxPeriod}
 use Rattle.words.specs.Word.{kindHead, kindPair, kindLeast, kindGreatest, kindNeeds, kindEnd, kindOf, payloadOf, headSpare, pairSpare, checksum}
 use Rattle.words.specs.Word.{holdOf, setupOf, needsSpare}
-use Rattle.refusals.specs.Checks.{Check, firstFault, eachCheck}
+use Rattle.refusals.specs.Checks.{Check, orCheck, faultAfter, firstFault, eachCheck}
 use Rattle.refusals.specs.Reply.{numbers, Outcome, replyOf, answered}
 use Rattle.refusals.specs.declared.Fault.{Fault}
 use Rattle.refusals.specs.declared.Fault.the-variants.{None, At}
-use Rattle.refusals.proofs.CheckLaws.{stop-first, pass-first, both-pass, pass-both, passed, passes, each-of, all-of}
+use Rattle.refusals.proofs.CheckLaws.{or-passed, stop-first, pass-first, both-pass, pass-both, passed, passes, each-of, all-of}
 use Rattle.refusals.proofs.ReplyLaws.{numbers-none}
 use Rattle.list_format.specs.Lists.{word, registers, pairCount, needWordsBy, needWords, holdAt, setupAt, needsOf, placeBy, pairPlace, writtenAt}
 use Rattle.list_format.specs.Lists.{countingNeeds, pairAt, pairsFrom, pairs, placeOf, stepOf, noNeeds}
@@ -143,6 +143,12 @@ module _ (n hold : ℕ) (p : Pair) (at leastAt greatestAt : ℕ) where
           (le-ltb maxDelay (p .least) (omega arith), (le-ltb _ _ (v .limit), (le-ltb _ _ (v .order), (le-ltb _ _ (w .holds), tt)))),
         ),
       )
+
+  -- 19 comes last, and with no hold it passes
+  pub hold-last : (f : Fault) → orCheck (faultAfter f (valueChecks n 0 p at leastAt greatestAt)) (ltb (p .least) hold, 19, leastAt)
+      ≡ faultAfter f (valueChecks n hold p at leastAt greatestAt)
+  unfolding faultAfter
+  hold-last f = rw (le-ltb (p .least) 0 (omega arith), or-passed)
 
 module _ (p least greatest at : ℕ) where
   kinds-in : firstFault (kindChecks p least greatest at) ≡ None → KindsIn p least greatest

@@ -15,6 +15,12 @@ unfolding orCheck faultAfter
 fault-stays number place [] = refl
 fault-stays number place (c ∷ cs) = fault-stays number place cs
 
+-- a check that passes changes nothing
+pub or-passed : (f : Fault) (number place : ℕ) → orCheck f (false, number, place) ≡ f
+unfolding orCheck
+or-passed None number place = refl
+or-passed (At n p) number place = refl
+
 pub fault-append : (f : Fault) (xs ys : List Check) → faultAfter f (xs ++ ys) ≡ faultAfter (faultAfter f xs) ys
 unfolding faultAfter
 fault-append f [] ys = refl

@@ -40,8 +40,9 @@ loop-again c =
     let s = c .before .before .before .before .before .before .before .before .before .before in
     let at = c .before .before .before .before .before .before .before .loop in
     let size : length (take 1 (s .args .counted .now)) ≡ 1 = length-take-le 1 (s .args .counted .now) (omega (arith, s .pre .room)) in
+    let took = c .before .before .before .before .before in
     filling-turn 3 (λ k. refl) (omega (arith, size, s .pre .room)) (at .inv) (omega arith) (placeBy 0 (at .k)) (omega (arith, size))
-    (rw (c .before .before .before .before .before .pair-at .ensures .same, c .before .before .before .pair-place .ensures) at (c .before .before .put .ensures))
+    (rw (took .pair-at .ensures .same, c .before .before .before .pair-place .ensures) at (c .before .before .put .ensures))
 
 same-length : tie.Need-same-length Inv-loop μ-loop
 same-length c = filling-size (c .before .loop .inv)

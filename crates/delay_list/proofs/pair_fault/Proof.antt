@@ -1,10 +1,11 @@
--- The kinds first, then the values. Without words of needs every hold is 0.
-use Prim.Native.Nat.{_≤_}
+-- The kinds first, then the values, with 19 last (`hold-last`). Without words of needs every hold is 0.
+use Prim.Native.Nat.{_+_, _≤_}
 use mathlib.Core.Path.{sym, _∙_}
 use native.Mathlib.Omega.{arith}
 use Rattle.refusals.proofs.CheckLaws.{fault-append}
 use Rattle.refusals.specs.declared.Fault.the-variants.{None}
-use Rattle.list_format.specs.Lists.{writtenAt}
+use Rattle.list_format.specs.Lists.{holdAt, pairPlace, writtenAt}
+use Rattle.list_format.proofs.ListLaws.{hold-last}
 use Rattle.list_format.proofs.NeedsLaws.{needs-few, hold-none}
 use borrow.Author.Needs.{needs}
 use Rattle.delay_list.proofs.pair_fault.Statement.{statement}
@@ -22,8 +23,8 @@ returns : tie.Need-returns
 returns c =
     let b = c .before .before .before .before .before .before .before .before .before in
     let ws = b .args .words .now in
-    let none = hold-none ws {r = writtenAt ws (b .args .k) .capture} (omega (arith, b .pre .0, c .before .if1 .taken)) in
-    c .value-fault .ensures ∙ rw (
+    let none = hold-none ws {r = writtenAt ws (b .args .k) .capture} (omega (arith, b .pre .0, c .if1 .taken)) in
+    c .before .value-fault .ensures ∙ rw (
       c .before .before .pair-of .ensures,
       c .before .before .before .kind-fault .ensures,
       c .before .before .before .before .before .before .before .pair-place .ensures,
@@ -34,13 +35,16 @@ returns c =
 returns-2 : tie.Need-returns-2
 returns-2 c =
     let b = c .before .before .before .before .before .before .before .before .before .before in
-    c .value-fault2 .ensures ∙ rw (
-      c .before .hold-at .ensures,
+    let ws = b .args .words .now in
+    let p = writtenAt ws (b .args .k) in
+    let at = pairPlace ws (b .args .k) in
+    c .hold-fault .ensures ∙ rw (
+      c .before .before .value-fault .ensures,
       c .before .before .before .pair-of .ensures,
       c .before .before .before .before .kind-fault .ensures,
       c .before .before .before .before .before .before .before .before .pair-place .ensures,
       b .pre .0,
-    ) (sym (fault-append None _ _))
+    ) (hold-last (b .args .n) (holdAt ws (p .capture)) p at (at + 1) (at + 2) _ ∙ sym (fault-append None _ _))
 
 pub pair-fault-spec : {M : Type 1} → statement M
 pair-fault-spec =
@@ -48,5 +52,5 @@ pair-fault-spec =
     (tie.spec
     pair-place-requires (λ c. search needs) (λ c. search needs) (λ c. search needs) (λ c. search needs)
     (λ c. search needs) (λ c. search needs) (λ c. search needs) (λ c. search needs) kind-fault-requires
-    (λ c κs. search needs) (λ c. search needs) (λ c. search needs) (λ c κs. search needs) returns (λ c κs. search needs)
-    (λ c. search needs) (λ c. search needs) (λ c κs. search needs) returns-2)
+    (λ c κs. search needs) (λ c. search needs) (λ c. search needs) (λ c κs. search needs) returns (λ c. search needs)
+    (λ c κs. search needs) returns-2)

@@ -21,7 +21,9 @@ sub-write-split c =
     two-fits (now (b .args .words)) (b .pre .1) (c .before .before .before .two-period .ensures .period)
 
 returns : tie.Need-returns
-returns c = two-in (c .before .before .before .before .before .before .before .before .before .before .before .pre .1) (c .before .before .before .before .before .before .two-period .ensures) (c .before .before .write-split .ensures)
+returns c =
+    let two = c .before .before .before .before .before .before in
+    two-in (two .before .before .before .before .before .pre .1) (two .two-period .ensures) (c .before .before .write-split .ensures)
 
 pub fill-split-spec : {M : Type 1} → statement M
 fill-split-spec =

@@ -9,15 +9,22 @@ use Rattle.planner.proofs.plan_by.Tie as tie
 fill-split-requires : tie.Need-fill-split-requires
 fill-split-requires c κs =
     let f = c .before .before .before .before .before in
-    let p = c .before .before .before .before .before .before .before .before .before .before .before .before .before .before .before .before .before .before .pre in
-    (still-usable (lent-size p _ (f .fill .kept .1 .1 .1 .1 .1 .0)) (p .list), f .before .before .before .before .common .ensures, f .fill .ensures .period)
+    let top = f .before .before .before .before in
+    let p = top .before .before .before .before .before .before .before .before .before .pre in
+    (still-usable (lent-size p _ (f .fill .kept .1 .1 .1 .1 .1 .0)) (p .list), top .common .ensures, f .fill .ensures .period)
 
 sub-offset : tie.Need-sub-offset
-sub-offset c = two-fits (now (c .before .before .before .before .before .before .before .before .before .before .before .before .before .before .before .before .before .before .before .before .before .args .words)) (c .before .before .before .before .before .before .before .before .before .before .before .before .common .ensures) (c .before .before .fill-split .ensures .period)
+sub-offset c =
+    let top = c .before .before .before .before .before .before .before .before .before .before .before .before in
+    let b = top .before .before .before .before .before .before .before .before .before in
+    two-fits (now (b .args .words)) (top .common .ensures) (c .before .before .fill-split .ensures .period)
 
 returns : tie.Need-returns
 returns c =
-    plan-in (c .before .before .before .before .before .before .before .before .before .before .before .before .before .before .before .before .before .before .before .before .before .pre) (c .before .before .before .before .before .before .before .before .before .before .before .before .common .ensures) (c .before .before .before .before .before .before .before .before .fill .ensures) (c .before .before .fill-split .ensures)
+    let f = c .before .before .before .before .before .before .before .before in
+    let top = f .before .before .before .before in
+    let b = top .before .before .before .before .before .before .before .before .before in
+    plan-in (b .pre) (top .common .ensures) (f .fill .ensures) (c .before .before .fill-split .ensures)
 
 pub plan-by-spec : {M : Type 1} → statement M
 plan-by-spec =
