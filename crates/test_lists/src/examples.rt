@@ -110,7 +110,7 @@ fn needy_pair(label: &[u8], first: u32, second: u32, least: u32, greatest: u32) 
     read(label, &list);
 }
 
-// Words of needs that pass, and those that are refused.
+// The largest needs, and larger ones.
 pub fn needs() {
     needy_pair(
         b"needs 9999: ",
@@ -133,6 +133,10 @@ pub fn needs() {
         0x6000_2710,
         0x8000_2710,
     );
+}
+
+// Words in the place of needs that are none, or not all that a word of needs may be.
+pub fn kinds_of_needs() {
     needy_pair(
         b"needs with a spare bit: ",
         0xB000_0001,
@@ -161,6 +165,10 @@ pub fn needs() {
         0x6000_0007,
         0x8000_000A,
     );
+}
+
+// Needs that are all 0, before and after other faults.
+pub fn needs_of_zeros() {
     needy_pair(
         b"needs of zeros: ",
         0xA000_0000,
@@ -207,6 +215,10 @@ pub fn holds() {
         0x6000_0007,
         0x8000_000A,
     );
+}
+
+// Refusals that come before a least delay below its hold.
+pub fn before_holds() {
     needy_pair(
         b"4/3, hold 8: ",
         0xA000_0000,
@@ -319,6 +331,11 @@ pub fn refused_needs() {
         &[0u32, 2, 7, 10],
         &[0u32, 10_000, 10_000, 0],
     );
+}
+
+// Least delays and holds, and room for needs.
+pub fn refused_holds() {
+    let one = [0u32, 1, 7, 10];
     write(b"hold 7 and least 7: ", 2, &one, &[0u32, 0, 7, 0]);
     write(
         b"hold 8 and least 7 in pair 1: ",

@@ -8,11 +8,15 @@ fn main() {
     examples::needy_lists();
     examples::refused_lists();
     examples::needs();
+    examples::kinds_of_needs();
+    examples::needs_of_zeros();
     examples::holds();
+    examples::before_holds();
     examples::pairs();
     examples::kinds();
     examples::refused_writing();
     examples::refused_needs();
+    examples::refused_holds();
     trips::small(b"random lists: ", 0, 0);
     trips::small(b"one word changed: ", 1, 0);
     trips::small(b"two words changed, the sum kept: ", 2, 0);
