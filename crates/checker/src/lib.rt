@@ -50,7 +50,7 @@ fn first_broken(words: &[u32], count: usize, period: u32, timings: &[u32]) -> us
     k
 }
 
-// Whether each pair of a list meets both rules.
+// Whether each pair of a usable list meets both rules.
 pub fn passes(words: &[u32], count: usize, period: u32, timings: &[u32]) -> bool
     requires { ⌜ UsableList (now words) (length (now timings)) count ⌝ }
     ensures { λ r. ⌜ r ≡ admissible period (pairs (now (words .entry))) (now (timings .entry)) ⌝ }
@@ -73,7 +73,7 @@ fn broken_rule(words: &[u32], k: usize, period: u32, timings: &[u32]) -> Rule
     Rule::Setup
 }
 
-// The answer for an accepted list.
+// The answer for a usable list.
 fn checked(words: &[u32], count: usize, period: u32, timings: &[u32]) -> Checking
     requires { ⌜ UsableList (now words) (length (now timings)) count ⌝ }
     ensures { λ r. ⌜ checkReply r ≡ numbers (found (now (words .entry)) period (now (timings .entry))) ⌝ }

@@ -1,4 +1,4 @@
-// The common period, the free period and the free schedule of an accepted list; the free period by trials of longer and
+// The common period, the free period and the free schedule of a usable list; the free period by trials of longer and
 // longer periods, and from the common period down where they do not come to an end soon.
 // The contracts cite `specs/Climbed.antt` and the laws of `free_laws`.
 ghost use mathlib.Core.Path.{_≡_};

@@ -23,7 +23,7 @@ pub record Relaxable (x : List ℕ) (p : Pair) (t k : ℕ) : Type 0 where
   pub period : t ≤ maxPeriod
   pub place : k < maxPairs
 
--- an accepted list, with a schedule to be raised at period t
+-- a usable list, with a schedule to be raised at period t
 pub record Raising (ws : List ℕ) (count t : ℕ) (x : List ℕ) : Type 0 where
   pub list : UsableList ws (length x) count
   pub capped : Capped maxTiming x

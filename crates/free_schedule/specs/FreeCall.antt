@@ -38,7 +38,7 @@ pub record FreeAs (ws was now : List ℕ) (r : FreeAnswer) : Type 0 where
   -- that schedule, brought to a check at the free period, passes
   pub passes : (common free : ℕ) → r ≡ Periods common free → Passes ws free (take (registers ws) now)
 
--- a list with its counts, and a buffer with a place for each register
+-- a usable list with its counts, and a buffer with a place for each register
 pub record Roomy (ws : List ℕ) (n count : ℕ) (buffer : List ℕ) : Type 0 where
   pub list : UsableList ws n count
   pub room : n ≤ length buffer

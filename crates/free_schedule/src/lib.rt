@@ -15,7 +15,7 @@ pub enum FreeAnswer {
     Refused(u32, usize),
 }
 
-// The free period of a list of n registers, with the ends of its pairs; the free schedule fills the first n places.
+// The free period of a usable list of n registers, with the ends of its pairs; the free schedule fills the first n places.
 pub fn fill(
     words: &[u32],
     n: usize,

@@ -8,7 +8,7 @@ use Rattle.timing.specs.Rules.{admissible}
 use Rattle.list_format.specs.Lists.{registers, pairs, UsableList}
 use Rattle.free_laws.specs.Constraint.{constraints, Least, Bound}
 
--- an accepted list with places for a schedule, and no schedule at a period shorter than t
+-- a usable list with places for a schedule, and no schedule at a period shorter than t
 pub record Trial (ws : List ℕ) (count t : ℕ) (x : List ℕ) : Type 0 where
   pub list : UsableList ws (length x) count
   pub pos : 1 ≤ t

@@ -59,16 +59,16 @@ pub record PlanAs (ws answer answer′ scratch scratch′ : List ℕ) (r : Plann
 
 -- ---- a call that no refusal fits
 
--- of a list with n registers and m pairs, with `room` places for the answer and `spare` places of scratch
+-- of a usable list with n registers and m pairs, with `room` places for the answer and `spare` places of scratch
 pub record PlanAllowed (ws : List ℕ) (n m room spare : ℕ) : Type 0 where
   pub none : firstFault (planChecks ws room spare) ≡ None
   pub list : UsableList ws n m
   pub answers : 2 * n ≤ room
   pub scratches : scratchPlaces n m ≤ spare
 
--- ---- the plan of a list, whatever the call
+-- ---- the plan of a usable list
 
--- a list with n registers and m pairs, and 2n places
+-- such a list with n registers and m pairs, and 2n places
 pub record PlanRoom (ws : List ℕ) (n m : ℕ) (answer : List ℕ) : Type 0 where
   pub list : UsableList ws n m
   pub places : 2 * n ≤ length answer

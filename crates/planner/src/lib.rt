@@ -31,7 +31,7 @@ fn call_fault(n: u32, m: u32, room: usize, spare: usize) -> Fault
         .or(spare < need, 1, 0)
 }
 
-// The two-timing period of a list with that common and that free period; the split's timings fill the places lent, one for each
+// The two-timing period of a usable list with that common and that free period; the split's timings fill the places lent, one for each
 // register, where the reaches stand until then. The ends of the pairs at each register are a hint.
 fn fill_split(
     words: &[u32],
@@ -51,7 +51,7 @@ fn fill_split(
     two
 }
 
-// The plan of a list with n registers and m pairs; the ends of its pairs fill the places lent.
+// The plan of a usable list with n registers and m pairs; the ends of its pairs fill the places lent.
 fn plan_by(words: &[u32], n: usize, m: usize, before: &mut [u16], answer: &mut [u32]) -> Planning
     requires { ⌜ PlanRoom (now words) n m (now answer) ⌝ }
     ensures { λ r. ⌜ PlanIn (now (words .entry)) (now (answer .entry)) (now (answer .exit)) r ⌝ }

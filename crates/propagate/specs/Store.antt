@@ -28,7 +28,7 @@ fourAt xs at = getD xs at 0 ∷ getD xs (at + 1) 0 ∷ getD xs (at + 2) 0 ∷ ge
 pub record Recorded (t s : ℕ) (ws F : List ℕ) : Type 0 where
   pub each : (k : ℕ) → k < pairCount ws → Flagged t s (pairAt ws k) (fourAt F (perPair * k))
 
--- an accepted list with n registers and m pairs, and room for a trial
+-- a usable list with n registers and m pairs, and room for a trial
 pub record Lent (ws : List ℕ) (n m : ℕ) (S : List ℕ) : Type 0 where
   pub list : UsableList ws n m
   pub room : scratchPlaces n m ≤ length S

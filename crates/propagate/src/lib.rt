@@ -1,4 +1,4 @@
-// Whether some split works at a period and an offset, for an accepted list; if so, the marks are those of the first.
+// Whether some split works at a period and an offset, for a usable list; if so, the marks are those of the first.
 // The contracts cite `specs/Store.antt` (what the scratch holds) and `specs/Passes.antt` (what a pass promises).
 ghost use mathlib.Core.Path.{_≡_};
 ghost use mathlib.Core.List.{_++_};

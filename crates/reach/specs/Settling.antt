@@ -19,7 +19,7 @@ pub record PairReaching (p : Pair) (top : ℕ) (W : List ℕ) : Type 0 where
   pub under : p .greatest ≤ top
   pub limit : top ≤ maxPeriod
 
--- an accepted list with its common period, and reaches of its registers
+-- a usable list with its common period, and reaches of its registers
 pub record Reaching (ws : List ℕ) (count top : ℕ) (W : List ℕ) : Type 0 where
   pub list : UsableList ws (length W) count
   pub topIs : top ≡ common (pairs ws)

@@ -1,4 +1,4 @@
-// Up to which period each register of an accepted list is forced late, and with it the two-timing period and its split.
+// Up to which period each register of a usable list is forced late, and with it the two-timing period and its split.
 // No period is tried: the reaches are raised pair by pair until none rises any more.
 // The contracts cite `specs/Settling.antt`, and the definitions of `plan_laws` (reaches and the plan).
 ghost use mathlib.Core.Path.{_≡_};
@@ -369,7 +369,7 @@ fn guide(
     )
 }
 
-// The two-timing period of an accepted list with the common period `top` and a free period above `floor`; the reaches are left
+// The two-timing period of a usable list with the common period `top` and a free period above `floor`; the reaches are left
 // in the n places lent. `lasts` and `before` are the ends of the pairs at each register, as a hint.
 pub fn two_period(
     words: &[u32],
