@@ -1,14 +1,15 @@
 // Whether a run of words is a delay list, the pairs of an accepted one, and the reader that walks them.
 // The contracts cite `list_format`: where a pair stands, what it is, and every check in its order.
 ghost use mathlib.Core.Path.{_≡_};
-ghost use mathlib.Core.Bool.{_&&_};
+ghost use mathlib.Core.Bool.{true, _&&_};
 ghost use mathlib.Core.List.{[], _∷_};
 ghost use Prim.Native.Nat.{_+_, _-_, _*_, _^_, _<_, _≤_};
 ghost use lib.Dec.{ltb};
 ghost use lib.ListN.{length};
 ghost use Rattle.words.specs.Word.{countBits, registerBits, holdOf, setupOf};
 ghost use Rattle.timing.specs.Limits.{maxPeriod};
-ghost use Rattle.refusals.specs.Checks.{orCheck, firstFault, faultAfter};
+ghost use Rattle.refusals.specs.Checks.{orCheck, firstFault, faultAfter, eachCheck};
+ghost use Rattle.refusals.specs.declared.Fault.the-variants.{None};
 ghost use Rattle.list_format.specs.Lists.{word, registers, pairCount, needWordsBy, needWords, holdAt, setupAt, needsOf, placeBy, pairPlace};
 ghost use Rattle.list_format.specs.Lists.{placeOf, stepOf, pairOf, counting, countingNeeds, noNeeds};
 ghost use Rattle.list_format.specs.Lists.{IsAccepted, PairIn, IsWritten, IsPair, verdict as verdictOf};
@@ -90,6 +91,32 @@ fn need_fault(words: &[u32], r: usize) -> Fault
         .or(words::setup(w) > timing::MAX_NEED, 13, 1 + r)
 }
 
+// Whether the word of needs of register r passes those checks, by tests with no order.
+fn need_passes(words: &[u32], r: usize) -> bool
+    requires { ⌜ 1 + r < length (now words) ⌝ }
+    ensures { λ s. ⌜ (s ≡ true → firstFault (needChecks (now (words .entry)) r) ≡ None) ⌝ }
+{
+    let w = words[1 + r];
+    (words::kind(w) == words::KIND_NEEDS)
+        & (words::needs_spare(w) == 0)
+        & (words::hold(w) <= timing::MAX_NEED)
+        & (words::setup(w) <= timing::MAX_NEED)
+}
+
+// Whether all words of needs do. No word ends the loop, so that several are looked at in one step.
+fn needs_pass(words: &[u32], needs: usize) -> bool
+    requires { ⌜ needs < length (now words) ⌝ }
+    ensures { λ s. ⌜ (s ≡ true → firstFault (eachCheck (needChecks (now (words .entry))) 0 needs) ≡ None) ⌝ }
+{
+    let mut pass = true;
+    let mut r = 0;
+    while r < needs {
+        pass = pass & need_passes(words, r);
+        r += 1;
+    }
+    pass
+}
+
 // Whether all needs are 0, in a list with words of needs.
 fn none_needed(words: &[u32], needs: usize) -> bool
     requires { ⌜ (0 < needs) × ((needs ≡ needWords (now words)) × (needs < length (now words))) ⌝ }
@@ -121,7 +148,7 @@ fn zero_fault(words: &[u32], needs: usize) -> Fault
 }
 
 // The words of needs, one by one, then 18.
-fn block_fault(words: &[u32], needs: usize) -> Fault
+fn needs_fault(words: &[u32], needs: usize) -> Fault
     requires { ⌜ (needs ≡ needWords (now words)) × (needs < length (now words)) ⌝ }
     ensures { λ r. ⌜ r ≡ firstFault (blockChecks (now (words .entry)) needs) ⌝ }
 {
@@ -134,6 +161,17 @@ fn block_fault(words: &[u32], needs: usize) -> Fault
         r += 1;
     }
     zero_fault(words, needs)
+}
+
+// The same, with no look for the first that fails where all pass.
+fn block_fault(words: &[u32], needs: usize) -> Fault
+    requires { ⌜ (needs ≡ needWords (now words)) × (needs < length (now words)) ⌝ }
+    ensures { λ r. ⌜ r ≡ firstFault (blockChecks (now (words .entry)) needs) ⌝ }
+{
+    if needs_pass(words, needs) {
+        return zero_fault(words, needs);
+    }
+    needs_fault(words, needs)
 }
 
 // The hold need of register r: 0 where there is no word of needs for it.
@@ -190,9 +228,10 @@ fn hold_fault(words: &[u32], needs: usize, found: Fault, p: Pair, at: usize) -> 
     Fault::None.or(p.least < hold_at(words, needs, p.capture), 19, at)
 }
 
-// All checks of pair k.
+// All checks of pair k. Where there are words of needs, there are n of them.
 fn pair_fault(words: &[u32], needs: usize, n: u32, k: usize) -> Fault
-    requires { ⌜ (needs ≡ needWords (now words)) × ((k < 2 ^ countBits) × (pairPlace (now words) k + 3 ≤ length (now words))) ⌝ }
+    requires { ⌜ (needs ≡ needWords (now words)) × ((k < 2 ^ countBits) × ((pairPlace (now words) k + 3 ≤ length (now words))
+        × (n ≡ registers (now words)))) ⌝ }
     ensures { λ r. ⌜ r ≡ firstFault (pairChecks (now (words .entry)) n k) ⌝ }
 {
     let at = pair_place(needs, k);
@@ -205,7 +244,7 @@ fn pair_fault(words: &[u32], needs: usize, n: u32, k: usize) -> Fault
     if needs == 0 {
         return ranged;
     }
-    hold_fault(words, needs, ranged, p, at + 1)
+    hold_fault(words, n as usize, ranged, p, at + 1)
 }
 
 // 13 and 17: the end word, which stands at `at`.
@@ -222,7 +261,8 @@ fn end_fault(words: &[u32], at: usize) -> Fault
 
 // The pairs, one by one, then the end.
 fn pairs_fault(words: &[u32], needs: usize, n: u32, m: usize) -> Fault
-    requires { ⌜ (needs ≡ needWords (now words)) × ((m < 2 ^ countBits) × (length (now words) ≡ pairPlace (now words) m + 1)) ⌝ }
+    requires { ⌜ (needs ≡ needWords (now words)) × ((m < 2 ^ countBits) × ((length (now words) ≡ pairPlace (now words) m + 1)
+        × (n ≡ registers (now words)))) ⌝ }
     ensures { λ r. ⌜ r ≡ firstFault (pairsChecks (now (words .entry)) n m) ⌝ }
 {
     let mut k = 0;
@@ -238,7 +278,8 @@ fn pairs_fault(words: &[u32], needs: usize, n: u32, m: usize) -> Fault
 
 // The checks of all that stands after the head.
 fn body_fault(words: &[u32], needs: usize, n: u32, m: usize) -> Fault
-    requires { ⌜ (needs ≡ needWords (now words)) × ((m < 2 ^ countBits) × (length (now words) ≡ pairPlace (now words) m + 1)) ⌝ }
+    requires { ⌜ (needs ≡ needWords (now words)) × ((m < 2 ^ countBits) × ((length (now words) ≡ pairPlace (now words) m + 1)
+        × (n ≡ registers (now words)))) ⌝ }
     ensures { λ r. ⌜ r ≡ firstFault (bodyChecks (now (words .entry)) n m) ⌝ }
 {
     let block = block_fault(words, needs);

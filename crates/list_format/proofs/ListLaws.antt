@@ -197,7 +197,7 @@ module _ (ws : List ℕ) where
           needs = record { hold = ltb-false _ _ (h .1 .1 .0); setup = ltb-false _ _ (h .1 .1 .1 .0) };
         }
 
-    need-pass : NeedWordIn (word ws (1 + r)) → firstFault (needChecks ws r) ≡ None
+    pub need-pass : NeedWordIn (word ws (1 + r)) → firstFault (needChecks ws r) ≡ None
     need-pass w =
         passes (needChecks ws r)
         (no-difference _ _ (w .kind), (no-difference _ _ (w .spare), (le-ltb _ _ (w .needs .hold), (le-ltb _ _ (w .needs .setup), tt))))

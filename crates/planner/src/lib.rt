@@ -73,25 +73,13 @@ fn plan_by(words: &[u32], n: usize, m: usize, before: &mut [u16], answer: &mut [
     Planning::Planned(common, free, two, offset)
 }
 
-// The same with places for the ends of few pairs, or for those of the most.
-fn plan_list(words: &[u32], n: usize, m: usize, answer: &mut [u32]) -> Planning
-    requires { ⌜ PlanRoom (now words) n m (now answer) ⌝ }
-    ensures { λ r. ⌜ PlanIn (now (words .entry)) (now (answer .entry)) (now (answer .exit)) r ⌝ }
-{
-    if m <= FEW_PAIRS {
-        let mut few = [NONE; FEW_ENDS];
-        return plan_by(words, n, m, &mut few, answer);
-    }
-    let mut before = [NONE; ENDS];
-    plan_by(words, n, m, &mut before, answer)
-}
-
 // The plan of an accepted list. Where it has words of needs they are counted into a copy of it first, in the scratch, which is
 // planned in its place: so a pair is taken with no look at its needs.
 fn plan_counted(
     words: &[u32],
     n: usize,
     m: usize,
+    before: &mut [u16],
     answer: &mut [u32],
     scratch: &mut [u32],
 ) -> Planning
@@ -100,10 +88,24 @@ fn plan_counted(
     ensures rest { λ r. ⌜ drop (scratchPlaces n m) (now (scratch .exit)) ≡ drop (scratchPlaces n m) (now (scratch .entry)) ⌝ }
 {
     if delay_list::need_count(words) == 0 {
-        return plan_list(words, n, m, answer);
+        return plan_by(words, n, m, before, answer);
     }
     counted_list::count_in(words, m, scratch);
-    plan_list(scratch, n, m, answer)
+    plan_by(scratch, n, m, before, answer)
+}
+
+// The same with places for the ends of few pairs, or for those of the most.
+fn plan_list(words: &[u32], n: usize, m: usize, answer: &mut [u32], scratch: &mut [u32]) -> Planning
+    requires { ⌜ PlanAllowed (now words) n m (length (now answer)) (length (now scratch)) ⌝ }
+    ensures plan { λ r. ⌜ PlanIn (now (words .entry)) (now (answer .entry)) (now (answer .exit)) r ⌝ }
+    ensures rest { λ r. ⌜ drop (scratchPlaces n m) (now (scratch .exit)) ≡ drop (scratchPlaces n m) (now (scratch .entry)) ⌝ }
+{
+    if m <= FEW_PAIRS {
+        let mut few = [NONE; FEW_ENDS];
+        return plan_counted(words, n, m, &mut few, answer, scratch);
+    }
+    let mut before = [NONE; ENDS];
+    plan_counted(words, n, m, &mut before, answer, scratch)
 }
 
 // The same, and the scratch is left zero.
@@ -111,7 +113,7 @@ fn show(words: &[u32], n: usize, m: usize, answer: &mut [u32], scratch: &mut [u3
     requires { ⌜ PlanAllowed (now words) n m (length (now answer)) (length (now scratch)) ⌝ }
     ensures { λ r. ⌜ PlanAs (now (words .entry)) (now (answer .entry)) (now (answer .exit)) (now (scratch .entry)) (now (scratch .exit)) r ⌝ }
 {
-    let planned = plan_counted(words, n, m, answer, scratch);
+    let planned = plan_list(words, n, m, answer, scratch);
     buffers::clear(scratch, timing::scratch_places(n, m));
     planned
 }

@@ -6,7 +6,7 @@ use Rattle.refusals.proofs.CheckLaws.{fault-append}
 use Rattle.refusals.specs.declared.Fault.the-variants.{None}
 use Rattle.list_format.specs.Lists.{holdAt, pairPlace, writtenAt}
 use Rattle.list_format.proofs.ListLaws.{hold-last}
-use Rattle.list_format.proofs.NeedsLaws.{needs-few, hold-none}
+use Rattle.list_format.proofs.NeedsLaws.{needs-few, needs-all, hold-none}
 use borrow.Author.Needs.{needs}
 use Rattle.delay_list.proofs.pair_fault.Statement.{statement}
 use Rattle.delay_list.proofs.pair_fault.Tie as tie
@@ -32,6 +32,12 @@ returns c =
       none,
     ) (sym (fault-append None _ _))
 
+hold-fault-requires : tie.Need-hold-fault-requires
+hold-fault-requires c κs =
+    let b = c .before .before .before .before .before .before .before .before .before in
+    let all = needs-all (b .args .words .now) (omega (arith, b .pre .0, c .if1 .left)) in
+    (b .pre .1 .1 .1 ∙ sym all, omega (arith, b .pre, all))
+
 returns-2 : tie.Need-returns-2
 returns-2 c =
     let b = c .before .before .before .before .before .before .before .before .before .before in
@@ -53,4 +59,4 @@ pair-fault-spec =
     pair-place-requires (λ c. search needs) (λ c. search needs) (λ c. search needs) (λ c. search needs)
     (λ c. search needs) (λ c. search needs) (λ c. search needs) (λ c. search needs) kind-fault-requires
     (λ c κs. search needs) (λ c. search needs) (λ c. search needs) (λ c κs. search needs) returns (λ c. search needs)
-    (λ c κs. search needs) returns-2)
+    hold-fault-requires returns-2)

@@ -1,5 +1,5 @@
 -- The head decides, or else what stands after it.
-use mathlib.Core.Path.{sym, _∙_}
+use mathlib.Core.Path.{refl, sym, _∙_}
 use native.Mathlib.Omega.{arith}
 use Rattle.list_format.proofs.ListLaws.{head-in, head-refuses, body-refuses, body-accepts}
 use borrow.Author.Needs.{needs}
@@ -17,8 +17,13 @@ body-fault-requires c κs =
     let words = c .before .before .before .before .before .before in
     let h = head-in (words .before .before .before .args .words .now) (rw (words .before .word-at .ensures, words .word-at2 .ensures) at
     (sym (c .before .before .before .before .before .head-fault .ensures) ∙ c .before .before .before .enum-told .given .1)) in
-    rw (c .need-words .ensures .0, c .before .head-pairs .ensures, words .before .word-at .ensures, words .word-at2 .ensures)
-    (omega arith, (omega arith, h .size))
+    rw (
+      c .need-words .ensures .0,
+      c .before .head-pairs .ensures,
+      c .before .before .head-registers .ensures,
+      words .before .word-at .ensures,
+      words .word-at2 .ensures,
+    ) (omega arith, (omega arith, (h .size, refl)))
 
 returns-2 : tie.Need-returns-2
 returns-2 c =

@@ -6,21 +6,22 @@ use borrow.Author.Needs.{needs}
 use Rattle.planner.proofs.plan_counted.Statement.{statement}
 use Rattle.planner.proofs.plan_counted.Tie as tie
 
-plan-list-requires-2 : tie.Need-plan-list-requires-2
-plan-list-requires-2 c κs =
-    let s = c .before .before .before .before .before .before .before .before .before .before .before in
-    counted-room (s .pre) (now (s .args .scratch)) refl (c .before .before .before .before .count-in .ensures) refl
+plan-by-requires-2 : tie.Need-plan-by-requires-2
+plan-by-requires-2 c κs =
+    let s = c .before .before .before .before .before .before .before .before .before .before .before .before .before in
+    counted-room (s .pre) (now (s .args .scratch)) refl (c .before .before .before .before .before .count-in .ensures) refl
 
 returns-2 : tie.Need-returns-2
 returns-2 c =
-    let s = c .before .before .before .before .before .before .before .before .before .before .before .before .before .before in
+    let p = c .before .before .before .before in
+    let s = p .before .before .before .before .before .before .before .before .before .before .before .before .before .before in
     let scratch = now (s .args .scratch) in
-    let counted = c .before .before .before .before .before .before .before .count-in .ensures in
-    (counted-plan (s .pre) scratch refl counted (c .before .before .plan-list2 .ensures), counted-rest (s .pre) scratch refl counted)
+    let counted = p .before .before .before .before .before .before .count-in .ensures in
+    (counted-plan (s .pre) scratch refl counted (p .plan-by2 .ensures), counted-rest (s .pre) scratch refl counted)
 
 pub plan-counted-spec : {M : Type 1} → statement M
 plan-counted-spec =
     tie.close
     (tie.spec
-    (λ c κs. search needs) (λ c κs. search needs) (λ c. search needs) (λ c. search needs) (λ c κs. search needs)
-    plan-list-requires-2 (λ c. search needs) (λ c. search needs) returns-2)
+    (λ c κs. search needs) (λ c κs. search needs) (λ c. search needs) (λ c. search needs) (λ c. search needs)
+    (λ c κs. search needs) plan-by-requires-2 (λ c. search needs) (λ c. search needs) (λ c. search needs) returns-2)

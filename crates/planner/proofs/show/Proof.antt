@@ -13,8 +13,8 @@ returns c =
     let answer = now (s .args .answer) in
     let scratch = now (s .args .scratch) in
     let cleared = rw (c .before .before .before .scratch-places .ensures) at (c .before .before .clear .ensures) in
-    planned ws answer scratch (s .pre) (p .plan-counted .ensures .0)
-    (left-zero ws answer scratch (s .pre) _ (p .plan-counted .ensures .1) cleared)
+    planned ws answer scratch (s .pre) (p .plan-list .ensures .0)
+    (left-zero ws answer scratch (s .pre) _ (p .plan-list .ensures .1) cleared)
 
 pub show-spec : {M : Type 1} → statement M
 show-spec =
