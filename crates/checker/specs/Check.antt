@@ -1,49 +1,94 @@
--- Checking a schedule against a delay list: which pair breaks a rule first, and what the call comes to.
-use Prim.Native.Nat.{ℕ}
+-- Checking a schedule against a delay list: the margins of its pairs, the smallest of all, which pair breaks a rule first, and what the call
+-- comes to.
+use Prim.Native.Nat.{ℕ, _+_, _*_, _≤_, _<_}
 use mathlib.Core.Bool.{Bool, true, false, not, _&&_, _||_, cond}
 use mathlib.Core.List.{List, [], _∷_, _++_}
 use mathlib.Core.Path.{_≡_}
 use lib.Dec.{ltb, eqb}
+use lib.IntN.{ℤ}
 use lib.ListN.{length}
-use Rattle.timing.specs.Rules.{setupMet, holdMet, time, admissible}
+use lib.Signed.{mag, nonNeg, ltZ, _≤ℤ_, _<ℤ_}
+use Rattle.timing.specs.Rules.{setupMargin, holdMargin, time, admissible, Each}
 use Rattle.timing.specs.Limits.{maxPeriod, maxTiming}
+use Rattle.words.specs.Signed.{signedWord}
 use Rattle.search.specs.Search.{least}
+use Rattle.search.specs.Lowest.{lowest}
 use Rattle.refusals.specs.Checks.{Check, firstFault}
 use Rattle.refusals.specs.Reply.{Reply, refusal, numbers, Outcome, done, replyOf, answered}
 use Rattle.refusals.specs.declared.Fault.the-variants.{None}
 use Rattle.list_format.specs.Lists.{registers, pairCount, pairAt, pairs, differ, listChecks, IsAccepted}
 use Rattle.checker.specs.declared.Rule.{Rule}
 use Rattle.checker.specs.declared.Rule.the-variants.{Setup, Hold}
+use Rattle.checker.specs.declared.Smallest.{Smallest}
+use Rattle.checker.specs.declared.Walk.{Walk}
 use Rattle.checker.specs.declared.Checking.{Checking}
-use Rattle.checker.specs.declared.Checking.the-variants.{Admissible, Broken, Refused}
+use Rattle.checker.specs.declared.Checking.the-variants.{NoPairs, Admissible, Broken, Refused}
 
--- ---- the first pair that breaks a rule, for the list ws, the period t and the schedule s
+-- ---- the margins, for the list ws, the period t and the schedule s
 
--- pair k meets setup
-unfoldable pub setupAt : List ℕ → ℕ → List ℕ → ℕ → Bool
-setupAt ws t s k = setupMet (pairAt ws k) t (time s (pairAt ws k .launch)) (time s (pairAt ws k .capture))
+-- the margin of a rule of pair k
+unfoldable pub marginAt : List ℕ → ℕ → List ℕ → ℕ → Rule → ℤ
+marginAt ws t s k Setup = setupMargin (pairAt ws k) t (time s (pairAt ws k .launch)) (time s (pairAt ws k .capture))
+marginAt ws t s k Hold = holdMargin (pairAt ws k) (time s (pairAt ws k .launch)) (time s (pairAt ws k .capture))
 
--- pair k meets hold
-unfoldable pub holdAt : List ℕ → List ℕ → ℕ → Bool
-holdAt ws s k = holdMet (pairAt ws k) (time s (pairAt ws k .launch)) (time s (pairAt ws k .capture))
+-- the rule of pair k with the smaller margin; setup if both are the same
+unfoldable pub lowRule : List ℕ → ℕ → List ℕ → ℕ → Rule
+lowRule ws t s k = cond (ltZ (marginAt ws t s k Hold) (marginAt ws t s k Setup)) Hold Setup
 
--- pair k meets both rules
+-- the smaller margin of pair k
+abbrev pub lowAt : List ℕ → ℕ → List ℕ → ℕ → ℤ
+lowAt ws t s k = marginAt ws t s k (lowRule ws t s k)
+
+-- with the pair and the rule
+abbrev pub smallestAt : List ℕ → ℕ → List ℕ → ℕ → Smallest
+smallestAt ws t s k = record { margin = lowAt ws t s k; pair = k; rule = lowRule ws t s k }
+
+-- the smallest margin of all: of the first pair that has it, setup before hold
+unfoldable pub smallest : List ℕ → ℕ → List ℕ → Smallest
+smallest ws t s = smallestAt ws t s (lowest (lowAt ws t s) (pairCount ws))
+
+-- ---- the first pair that breaks a rule
+
+-- pair k meets both rules: no margin is negative
 unfoldable pub metAt : List ℕ → ℕ → List ℕ → ℕ → Bool
-metAt ws t s k = setupAt ws t s k && holdAt ws s k
+metAt ws t s k = nonNeg (marginAt ws t s k Setup) && nonNeg (marginAt ws t s k Hold)
 
 -- the first pair that does not; m if each does
 unfoldable pub firstBroken : List ℕ → ℕ → List ℕ → ℕ
 firstBroken ws t s = least (λ k. not (metAt ws t s k)) 0 (pairCount ws)
 
--- of a pair that does not: 0 if it breaks setup, 1 if only hold
-unfoldable pub brokenRule : List ℕ → ℕ → List ℕ → ℕ → ℕ
-brokenRule ws t s k = cond (setupAt ws t s k) 1 0
+-- of a pair that does not: setup if it breaks that, else hold
+unfoldable pub brokenRule : List ℕ → ℕ → List ℕ → ℕ → Rule
+brokenRule ws t s k = cond (nonNeg (marginAt ws t s k Setup)) Hold Setup
 
--- the numbers returned: none of an admissible schedule, else the pair and its rule
-unfoldable pub found : List ℕ → ℕ → List ℕ → List ℕ
-found ws t s =
+-- ---- the answer for an accepted list, and its numbers
+
+unfoldable pub answerFor : List ℕ → ℕ → List ℕ → Checking
+answerFor ws t s =
     let k : ℕ = firstBroken ws t s in
-    cond (ltb k (pairCount ws)) (k ∷ brokenRule ws t s k ∷ []) []
+    let x : Smallest = smallest ws t s in
+    cond (eqb (pairCount ws) 0) NoPairs (cond (ltb k (pairCount ws)) (Broken k (brokenRule ws t s k) x) (Admissible x))
+
+unfoldable pub ruleNumber : Rule → ℕ
+ruleNumber Setup = 0
+ruleNumber Hold = 1
+
+-- a margin, as a word of 64 bits, its pair and its rule
+unfoldable pub smallestNumbers : Smallest → List ℕ
+smallestNumbers x = signedWord (x .margin) ∷ x .pair ∷ ruleNumber (x .rule) ∷ []
+
+-- the values of each case of the answer; number and place of a refusal are no values
+unfoldable pub checkValues : Checking → List ℕ
+checkValues NoPairs = []
+checkValues (Admissible x) = smallestNumbers x
+checkValues (Broken k rule x) = smallestNumbers x ++ (k ∷ ruleNumber rule ∷ [])
+checkValues (Refused number place) = []
+
+unfoldable pub checkReply : Checking → Reply
+checkReply NoPairs = numbers (checkValues NoPairs)
+checkReply (Admissible x) = numbers (checkValues (Admissible x))
+checkReply (Broken k rule x) = numbers (checkValues (Broken k rule x))
+checkReply (Refused number place) = refusal number place
 
 -- ---- the call
 
@@ -67,26 +112,65 @@ checkChecks ws t s = listChecks ws ++ timingChecks (registers ws) t s
 
 -- what checking comes to; nothing is stored
 unfoldable pub checking : List ℕ → ℕ → List ℕ → Outcome
-checking ws t s = answered (checkChecks ws t s) (done (found ws t s) [])
+checking ws t s = answered (checkChecks ws t s) (done (checkValues (answerFor ws t s)) [])
+
+-- the answer is that the schedule is admissible
+unfoldable pub admits : Checking → Bool
+admits NoPairs = true
+admits (Admissible x) = true
+admits (Broken k rule x) = false
+admits (Refused number place) = false
 
 -- the schedule s, brought to a check at the period t, is not refused and comes out admissible
-abbrev pub Passes : List ℕ → ℕ → List ℕ → Type 0
-Passes ws t s = checking ws t s ≡ done [] []
+pub record Passes (ws : List ℕ) (t : ℕ) (s : List ℕ) : Type 0 where
+  pub accepted : firstFault (checkChecks ws t s) ≡ None
+  pub admitted : admits (answerFor ws t s) ≡ true
 
-unfoldable pub ruleNumber : Rule → ℕ
-ruleNumber Setup = 0
-ruleNumber Hold = 1
+-- ---- the answer as propositions
 
--- the number and values of each case of the answer
-unfoldable pub checkReply : Checking → Reply
-checkReply Admissible = numbers []
-checkReply (Broken k rule) = numbers (k ∷ ruleNumber rule ∷ [])
-checkReply (Refused number place) = refusal number place
+-- the smallest margin that an answer reports, whether the schedule passes or fails
+unfoldable pub reported : Checking → List Smallest
+reported NoPairs = []
+reported (Admissible x) = x ∷ []
+reported (Broken k rule x) = x ∷ []
+reported (Refused number place) = []
+
+-- the place of a margin among all: pair by pair, setup before hold
+abbrev pub marginPlace : ℕ → Rule → ℕ
+marginPlace k rule = 2 * k + ruleNumber rule
+
+-- x is the smallest margin of all, and the first that is as small
+pub record IsSmallest (ws : List ℕ) (t : ℕ) (s : List ℕ) (x : Smallest) : Type 0 where
+  pub below : x .pair < pairCount ws
+  pub is : x .margin ≡ marginAt ws t s (x .pair) (x .rule)
+  pub smallest : (k : ℕ) (rule : Rule) → k < pairCount ws → x .margin ≤ℤ marginAt ws t s k rule
+  pub first : (k : ℕ) (rule : Rule) → marginPlace k rule < marginPlace (x .pair) (x .rule) → x .margin <ℤ marginAt ws t s k rule
+  -- its sign tells whether the schedule is admissible
+  pub sign : admissible t (pairs ws) s ≡ nonNeg (x .margin)
+  pub within : mag (x .margin) ≤ maxTiming + maxPeriod
 
 -- the schedule s was checked against the words ws at the period t
 pub record CheckedAs (ws : List ℕ) (t : ℕ) (s : List ℕ) (r : Checking) : Type 0 where
   pub reply : checkReply r ≡ replyOf (checking ws t s)
   -- only an admissible schedule passes
-  pub sound : r ≡ Admissible → admissible t (pairs ws) s ≡ true
+  pub sound : admits r ≡ true → admissible t (pairs ws) s ≡ true
   -- every admissible schedule passes, unless the call is refused
-  pub complete : admissible t (pairs ws) s ≡ true → firstFault (checkChecks ws t s) ≡ None → r ≡ Admissible
+  pub complete : admissible t (pairs ws) s ≡ true → firstFault (checkChecks ws t s) ≡ None → admits r ≡ true
+  pub margin : Each (IsSmallest ws t s) (reported r)
+  -- no margin is reported exactly of a list without pairs, unless the call is refused
+  pub none : r ≡ NoPairs → pairCount ws ≡ 0
+  pub some : firstFault (checkChecks ws t s) ≡ None → pairCount ws ≡ 0 → r ≡ NoPairs
+
+-- ---- the walk over the pairs
+
+-- the walk w with one pair more, whose smaller margin is x
+unfoldable pub walkedOn : Walk → Smallest → Walk
+walkedOn w x =
+    let first : ℕ = cond (nonNeg (w .smallest .margin)) (x .pair) (w .broken) in
+    cond (ltZ (x .margin) (w .smallest .margin)) (record { smallest = x; broken = first }) w
+
+-- the walk w has come to k pairs
+pub record Walked (ws : List ℕ) (t : ℕ) (s : List ℕ) (k : ℕ) (w : Walk) : Type 0 where
+  pub smallest : w .smallest ≡ smallestAt ws t s (lowest (lowAt ws t s) k)
+  -- a negative margin was met
+  pub broken : nonNeg (w .smallest .margin) ≡ false → w .broken ≡ firstBroken ws t s

@@ -1,12 +1,13 @@
-// Checks a given schedule against a delay list: whether each pair meets both rules, and if not, which breaks one first.
-// The contracts cite `specs/Check.antt`.
+// Checks a given schedule against a delay list: by how much each pair meets both rules, the smallest margin of all, and whether each pair
+// meets them; if not, which breaks one first. The contracts cite `specs/Check.antt`.
 ghost use mathlib.Core.Path.{_≡_};
+ghost use Prim.Native.Nat.{_<_};
 ghost use lib.ListN.{length};
 ghost use Rattle.timing.specs.Rules.{admissible};
 ghost use Rattle.refusals.specs.Checks.{firstFault};
-ghost use Rattle.refusals.specs.Reply.{numbers};
 ghost use Rattle.list_format.specs.Lists.{registers, pairs, PairIn, UsableList};
-ghost use Rattle.checker.specs.Check.{metAt, firstBroken, brokenRule, found, someAbove, timingChecks, ruleNumber, checkReply, CheckedAs};
+ghost use Rattle.checker.specs.Check.{smallestAt, metAt, firstBroken, brokenRule, walkedOn, Walked, answerFor};
+ghost use Rattle.checker.specs.Check.{someAbove, timingChecks, CheckedAs};
 use list_format::Verdict;
 use refusals::Fault;
 
@@ -15,12 +16,26 @@ pub enum Rule {
     Hold,
 }
 
-// What checking comes to: each pair meets both rules, or the first pair that does not and the rule that it breaks,
-// setup named before hold, or a refusal with its place.
+// A margin, with the pair and the rule that have it.
+pub struct Smallest {
+    pub margin: i64,
+    pub pair: usize,
+    pub rule: Rule,
+}
+
+// What checking comes to: a list without pairs, which every schedule meets; each pair meets both rules; the first pair that does not and the
+// rule that it breaks, setup named before hold; or a refusal with its place. Pairs come with the smallest margin of all.
 pub enum Checking {
-    Admissible,
-    Broken(usize, Rule),
+    NoPairs,
+    Admissible(Smallest),
+    Broken(usize, Rule, Smallest),
     Refused(u32, usize),
+}
+
+// What a walk has come to: the smallest margin, and where that is negative the first pair that breaks a rule.
+struct Walk {
+    smallest: Smallest,
+    broken: usize,
 }
 
 // Whether pair k meets both rules.
@@ -32,10 +47,10 @@ fn meets(words: &[u32], k: usize, period: u32, timings: &[u32]) -> bool
     let p = delay_list::pair_at(words, k);
     let a = p.launch as usize;
     let b = p.capture as usize;
-    if !p.setup(period, timings[a], timings[b]) {
+    if p.setup_margin(period, timings[a], timings[b]) < 0 {
         return false;
     }
-    p.hold(timings[a], timings[b])
+    p.hold_margin(timings[a], timings[b]) >= 0
 }
 
 // The first pair that does not; their count if each does.
@@ -58,16 +73,78 @@ pub fn passes(words: &[u32], count: usize, period: u32, timings: &[u32]) -> bool
     first_broken(words, count, period, timings) == count
 }
 
+// The smaller margin of pair k, setup's if both are the same.
+fn smaller_margin(words: &[u32], k: usize, period: u32, timings: &[u32]) -> Smallest
+    requires { ⌜ PairIn (now words) k ⌝ }
+    requires { ⌜ length (now timings) ≡ registers (now words) ⌝ }
+    ensures { λ r. ⌜ r ≡ smallestAt (now (words .entry)) period (now (timings .entry)) k ⌝ }
+{
+    let p = delay_list::pair_at(words, k);
+    let a = timings[p.launch as usize];
+    let b = timings[p.capture as usize];
+    let setup = p.setup_margin(period, a, b);
+    let hold = p.hold_margin(a, b);
+    if hold < setup {
+        return Smallest {
+            margin: hold,
+            pair: k,
+            rule: Rule::Hold,
+        };
+    }
+    Smallest {
+        margin: setup,
+        pair: k,
+        rule: Rule::Setup,
+    }
+}
+
+// The walk with one pair more, whose smaller margin is x.
+fn walked_on(walk: Walk, x: Smallest) -> Walk
+    ensures { λ r. ⌜ r ≡ walkedOn walk x ⌝ }
+{
+    if x.margin < walk.smallest.margin {
+        if walk.smallest.margin >= 0 {
+            return Walk {
+                smallest: x,
+                broken: x.pair,
+            };
+        }
+        return Walk {
+            smallest: x,
+            broken: walk.broken,
+        };
+    }
+    walk
+}
+
+// The walk over all pairs.
+fn walked(words: &[u32], count: usize, period: u32, timings: &[u32]) -> Walk
+    requires { ⌜ UsableList (now words) (length (now timings)) count ⌝ }
+    requires { ⌜ 0 < count ⌝ }
+    ensures { λ r. ⌜ Walked (now (words .entry)) period (now (timings .entry)) count r ⌝ }
+{
+    let mut walk = Walk {
+        smallest: smaller_margin(words, 0, period, timings),
+        broken: 0,
+    };
+    let mut k = 1;
+    while k < count {
+        walk = walked_on(walk, smaller_margin(words, k, period, timings));
+        k += 1;
+    }
+    walk
+}
+
 // The rule that pair k breaks, if it breaks one.
 fn broken_rule(words: &[u32], k: usize, period: u32, timings: &[u32]) -> Rule
     requires { ⌜ PairIn (now words) k ⌝ }
     requires { ⌜ length (now timings) ≡ registers (now words) ⌝ }
-    ensures { λ r. ⌜ ruleNumber r ≡ brokenRule (now (words .entry)) period (now (timings .entry)) k ⌝ }
+    ensures { λ r. ⌜ r ≡ brokenRule (now (words .entry)) period (now (timings .entry)) k ⌝ }
 {
     let p = delay_list::pair_at(words, k);
     let a = p.launch as usize;
     let b = p.capture as usize;
-    if p.setup(period, timings[a], timings[b]) {
+    if p.setup_margin(period, timings[a], timings[b]) >= 0 {
         return Rule::Hold;
     }
     Rule::Setup
@@ -76,13 +153,17 @@ fn broken_rule(words: &[u32], k: usize, period: u32, timings: &[u32]) -> Rule
 // The answer for a usable list.
 fn checked(words: &[u32], count: usize, period: u32, timings: &[u32]) -> Checking
     requires { ⌜ UsableList (now words) (length (now timings)) count ⌝ }
-    ensures { λ r. ⌜ checkReply r ≡ numbers (found (now (words .entry)) period (now (timings .entry))) ⌝ }
+    ensures { λ r. ⌜ r ≡ answerFor (now (words .entry)) period (now (timings .entry)) ⌝ }
 {
-    let k = first_broken(words, count, period, timings);
-    if k < count {
-        return Checking::Broken(k, broken_rule(words, k, period, timings));
+    if count == 0 {
+        return Checking::NoPairs;
     }
-    Checking::Admissible
+    let walk = walked(words, count, period, timings);
+    if walk.smallest.margin >= 0 {
+        return Checking::Admissible(walk.smallest);
+    }
+    let rule = broken_rule(words, walk.broken, period, timings);
+    Checking::Broken(walk.broken, rule, walk.smallest)
 }
 
 // Whether some timing is above the limit.

@@ -1,2 +1,3 @@
 -- The definitions, which the laws of other crates cite.
 pub mod Search
+pub mod Lowest

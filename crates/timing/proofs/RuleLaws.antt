@@ -3,9 +3,9 @@ use mathlib.Core.Bool.{Bool, true, false, _&&_}
 use mathlib.Core.List.{List, [], _∷_}
 use mathlib.Core.Path.{_≡_, refl}
 use Prim.Native.Nat.{ℕ, _+_, _≤_}
-use borrow.Author.Tests.{leb-true, le-leb}
 use Rattle.timing.specs.declared.Pair.{Pair}
 use Rattle.timing.specs.Rules.{setupMet, holdMet, pairMet, time, admissible, Met, Admissible}
+use Rattle.timing.proofs.MarginLaws.{not-negative→le, le→not-negative}
 
 pub and-true : (a b : Bool) → a && b ≡ true → (a ≡ true) × (b ≡ true)
 and-true true b e = (refl, e)
@@ -15,10 +15,10 @@ module _ (p : Pair) (t a b : ℕ) where
   pub test→met : pairMet p t a b ≡ true → Met t a b p
   test→met e =
       let both = and-true (setupMet p t a b) (holdMet p a b) e in
-      record { setup = leb-true _ _ (both .0); hold = leb-true _ _ (both .1) }
+      record { setup = not-negative→le (both .0); hold = not-negative→le (both .1) }
 
   pub met→test : Met t a b p → pairMet p t a b ≡ true
-  met→test m = rw (le-leb _ _ (m .setup), le-leb _ _ (m .hold))
+  met→test m = rw (le→not-negative (m .setup), le→not-negative (m .hold))
 
 module _ (t : ℕ) (s : List ℕ) where
   -- what passes meets every rule

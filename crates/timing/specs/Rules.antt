@@ -1,25 +1,34 @@
--- The two timing rules of a pair, schedules, and when a schedule is admissible.
--- The rules are on natural numbers, with what is subtracted brought to the other side.
+-- The two timing rules of a pair with their margins, schedules, and when a schedule is admissible.
+-- As propositions the rules are on natural numbers, with what is subtracted brought to the other side.
 use mathlib.Core.Bool.{Bool, true, _&&_}
 use mathlib.Core.List.{List, [], _∷_}
 use Prim.Native.Nat.{ℕ, _+_, _≤_, _<_}
-use lib.Dec.{leb}
+use lib.IntN.{ℤ, subℕ}
 use lib.ListN.{getD}
+use lib.Signed.{nonNeg}
 use Rattle.timing.specs.declared.Pair.{Pair}
 
 -- a pair from its four numbers
 abbrev pub pair : ℕ → ℕ → ℕ → ℕ → Pair
 pair a b least greatest = record { launch = a; capture = b; least = least; greatest = greatest }
 
--- ---- as tests
+-- ---- margins: the right side of a rule minus its left side, a whole number with sign
 
 -- setup at period t, with launch time a and capture time b: a - b is at most t - greatest
-abbrev pub setupMet : Pair → ℕ → ℕ → ℕ → Bool
-setupMet p t a b = leb (a + p .greatest) (b + t)
+abbrev pub setupMargin : Pair → ℕ → ℕ → ℕ → ℤ
+setupMargin p t a b = subℕ (b + t) (a + p .greatest)
 
 -- hold: b - a is at most least
+abbrev pub holdMargin : Pair → ℕ → ℕ → ℤ
+holdMargin p a b = subℕ (a + p .least) b
+
+-- ---- as tests: a rule is met where its margin is not negative
+
+abbrev pub setupMet : Pair → ℕ → ℕ → ℕ → Bool
+setupMet p t a b = nonNeg (setupMargin p t a b)
+
 abbrev pub holdMet : Pair → ℕ → ℕ → Bool
-holdMet p a b = leb b (a + p .least)
+holdMet p a b = nonNeg (holdMargin p a b)
 
 -- both rules
 abbrev pub pairMet : Pair → ℕ → ℕ → ℕ → Bool

@@ -1,9 +1,10 @@
-// A pair of registers with the delays of the logic between them, and its two timing rules.
+// A pair of registers with the delays of the logic between them, and the margins of its two timing rules.
 // The contracts cite `specs/Rules.antt`; the limits stand again, one by one, in `specs/Limits.antt`.
 ghost use mathlib.Core.Path.{_≡_};
 ghost use Prim.Native.Nat.{_-_, _^_, _<_, max, min};
+ghost use lib.IntN.{subℕ};
 ghost use Rattle.timing.specs.Limits.{scratchPlaces};
-ghost use Rattle.timing.specs.Rules.{setupMet, holdMet};
+ghost use Rattle.timing.specs.Rules.{setupMargin, holdMargin};
 
 // The limits of a delay list and of a call, each named once. Times are in picoseconds.
 pub const MAX_REGISTERS: u32 = 512;
@@ -39,19 +40,34 @@ pub struct Pair {
     pub greatest: u32,
 }
 
+// The right side of a rule minus its left side.
+fn margin(right: u64, left: u64) -> i64
+    requires { ⌜ (right < 2 ^ 63) × (left < 2 ^ 63) ⌝ }
+    ensures { λ r. ⌜ r ≡ subℕ right left ⌝ }
+{
+    (right as i64) - (left as i64)
+}
+
+// A rule is met where its margin is not negative.
 impl Pair {
     // Setup at a period, for the times of the launch and of the capture register.
-    pub fn setup(self, period: u32, launch_time: u32, capture_time: u32) -> bool
-        ensures { λ r. ⌜ r ≡ setupMet self period «launch_time» «capture_time» ⌝ }
+    pub fn setup_margin(self, period: u32, launch_time: u32, capture_time: u32) -> i64
+        ensures { λ r. ⌜ r ≡ setupMargin self period «launch_time» «capture_time» ⌝ }
     {
-        (launch_time as u64) + (self.greatest as u64) <= (capture_time as u64) + (period as u64)
+        margin(
+            (capture_time as u64) + (period as u64),
+            (launch_time as u64) + (self.greatest as u64),
+        )
     }
 
     // Hold, for the times of the launch and of the capture register.
-    pub fn hold(self, launch_time: u32, capture_time: u32) -> bool
-        ensures { λ r. ⌜ r ≡ holdMet self «launch_time» «capture_time» ⌝ }
+    pub fn hold_margin(self, launch_time: u32, capture_time: u32) -> i64
+        ensures { λ r. ⌜ r ≡ holdMargin self «launch_time» «capture_time» ⌝ }
     {
-        (capture_time as u64) <= (launch_time as u64) + (self.least as u64)
+        margin(
+            (launch_time as u64) + (self.least as u64),
+            capture_time as u64,
+        )
     }
 }
 
