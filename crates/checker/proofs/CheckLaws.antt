@@ -1,6 +1,6 @@
 -- The walk to the first pair that breaks a rule, and what it says of the schedule.
-use Prim.Native.Nat.{ℕ, suc, _+_, _≤_, _<_, zero-le}
-use mathlib.Core.Bool.{Bool, true, false, not, _||_, false≢true}
+use Prim.Native.Nat.{ℕ, zero, suc, _+_, _≤_, _<_, zero-le}
+use mathlib.Core.Bool.{Bool, true, false, not, _||_, cond, false≢true}
 use mathlib.Core.List.{List, [], _∷_}
 use mathlib.Core.Logic.{_⊎_, inl, inr}
 use mathlib.Core.Path.{_≡_, refl, ap, sym, _∙_}
@@ -8,13 +8,15 @@ use native.Mathlib.Nat.{eq-or-lt-of-le}
 use native.Mathlib.Numerals.{add-one}
 use native.Mathlib.Omega.{arith}
 use borrow.Author.Count.{below-more}
-use borrow.Author.Tests.{not-true, not-false, lt-ltb, le-ltb, ltb-true, ltb-false, eq-eqb, ne-eqb}
+use borrow.Author.Tests.{not-true, not-false, lt-ltb, le-ltb, ltb-true, ltb-false, eq-eqb, ne-eqb, eqb-true, eqb-false}
 use lib.Dec.{ltb, eqb}
+use lib.IntN.{pos}
 use lib.ListN.{length, drop, getD, drop-of-length-le}
 use lib.Seq.{drop-cons}
-use Rattle.timing.specs.declared.Pair.{Pair}
-use Rattle.timing.specs.Rules.{setupMet, holdMet, time, admissible}
+use lib.Signed.{mag, nonNeg, leZ}
+use Rattle.timing.specs.Rules.{time, admissible, Each}
 use Rattle.timing.specs.Limits.{maxPeriod, maxTiming}
+use Rattle.timing.proofs.MarginLaws.{lt-or-le, at-least-nought, size}
 use Rattle.timing.proofs.RuleLaws.{test→met, met→test, admissible-sound, admissible-complete}
 use Rattle.search.proofs.SearchLaws.{IsLeast, least-is, least-is-least}
 use Rattle.refusals.specs.Checks.{firstFault}
@@ -23,46 +25,19 @@ use Rattle.refusals.proofs.ReplyLaws.{answered-refused, answered-done}
 use Rattle.refusals.specs.Reply.{numbers, refused, done, replyOf}
 use Rattle.refusals.specs.declared.Fault.{Fault}
 use Rattle.refusals.specs.declared.Fault.the-variants.{None, At}
-use Rattle.list_format.specs.Lists.{registers, pairCount, pairAt, pairs, listChecks, verdict, IsAccepted, IsPair, UsableList}
+use Rattle.list_format.specs.Lists.{registers, pairCount, pairAt, pairs, listChecks, verdict, IsAccepted, IsUsable, PairIn, UsableList}
 use Rattle.list_format.specs.declared.Verdict.the-variants as Verdict
 use Rattle.list_format.specs.declared.Verdict.the-variants.{Accepted}
-use Rattle.list_format.proofs.ListLaws.{refused→fault, accepted→none, none→accepted, same, no-difference, each-pair, pair-holds}
-use Rattle.list_format.proofs.ListLaws.{usable-list, still-usable}
-use Rattle.checker.specs.Check.{setupAt, holdAt, metAt, firstBroken, brokenRule, found, ruleNumber}
-use Rattle.checker.specs.Check.{someAbove, timingChecks, checkChecks, checking, checkReply, CheckedAs, Passes}
+use Rattle.list_format.proofs.ListLaws.{refused→fault, accepted→none, same, no-difference, each-pair, pair-holds}
+use Rattle.list_format.proofs.ListLaws.{usable-list, still-usable, is-pair}
+use Rattle.checker.specs.Check.{marginAt, lowRule, smallest, metAt, firstBroken, brokenRule, answerFor, checkValues, checkReply, Walked}
+use Rattle.checker.specs.Check.{someAbove, timingChecks, checkChecks, checking, admits, reported, Passes, IsSmallest, CheckedAs}
 use Rattle.checker.specs.declared.Rule.{Rule}
 use Rattle.checker.specs.declared.Rule.the-variants.{Setup, Hold}
+use Rattle.checker.specs.declared.Walk.{Walk}
 use Rattle.checker.specs.declared.Checking.{Checking}
-use Rattle.checker.specs.declared.Checking.the-variants.{Admissible, Broken, Refused}
-
--- ---- one pair
-
-module _ (t : ℕ) (s : List ℕ) {ws : List ℕ} {k : ℕ} {p : Pair} (is : IsPair ws k p) {a : Bool}
-    (setup : a ≡ setupMet p t (time s (p .launch)) (time s (p .capture))) where
-  setup-same : a ≡ setupAt ws t s k
-  unfolding setupAt
-  setup-same = setup ∙ ap (λ (q : Pair). setupMet q t (time s (q .launch)) (time s (q .capture))) (is .same)
-
-  hold-same : {b : Bool} → b ≡ holdMet p (time s (p .launch)) (time s (p .capture)) → b ≡ holdAt ws s k
-  unfolding holdAt
-  hold-same hold = hold ∙ ap (λ (q : Pair). holdMet q (time s (q .launch)) (time s (q .capture))) (is .same)
-
-  -- setup is met: hold decides
-  pub met-both : {b : Bool} → a ≡ true → b ≡ holdMet p (time s (p .launch)) (time s (p .capture)) → b ≡ metAt ws t s k
-  unfolding metAt
-  met-both e hold = rw (← setup-same, e) (hold-same hold)
-
-  pub met-not : a ≡ false → false ≡ metAt ws t s k
-  unfolding metAt
-  met-not e = rw (← setup-same, e)
-
-  pub breaks-hold : a ≡ true → ruleNumber Hold ≡ brokenRule ws t s k
-  unfolding brokenRule ruleNumber
-  breaks-hold e = rw (← setup-same, e)
-
-  pub breaks-setup : a ≡ false → ruleNumber Setup ≡ brokenRule ws t s k
-  unfolding brokenRule ruleNumber
-  breaks-setup e = rw (← setup-same, e)
+use Rattle.checker.specs.declared.Checking.the-variants.{NoPairs, Admissible, Broken, Refused}
+use Rattle.checker.proofs.MarginLaws.{not-negative, met-low, smallest-met, smallest-below, smallest-is, smallest-least, smallest-first}
 
 -- ---- pair after pair
 
@@ -94,12 +69,12 @@ module _ (ws : List ℕ) (t : ℕ) (s : List ℕ) where
   first-is = least-is-least (λ k. not (metAt ws t s k)) 0 (pairCount ws) zero-le
 
   pub none-admissible : pairCount ws ≤ firstBroken ws t s → admissible t (pairs ws) s ≡ true
-  unfolding metAt setupAt holdAt
+  unfolding metAt marginAt
   none-admissible h =
       admissible-complete t s (pairs ws) (each-pair ws _ (λ k l. test→met (pairAt ws k) t _ _ (not-false _ (first-is .before k zero-le (omega arith)))))
 
   admissible-none : admissible t (pairs ws) s ≡ true → firstBroken ws t s < pairCount ws → ⊥
-  unfolding metAt setupAt holdAt
+  unfolding metAt marginAt
   admissible-none a h =
       false≢true (sym (not-true _ (first-is .passes h)) ∙ met→test (pairAt ws _) t _ _ (pair-holds ws _ (admissible-sound t s (pairs ws) a) _ h))
 
@@ -119,59 +94,166 @@ module _ (ws : List ℕ) (t : ℕ) (s : List ℕ) where
       go (inl e) = eq-eqb _ _ e ∙ sym (none-admissible (omega arith))
       go (inr l) = ne-eqb (firstBroken ws t s) (pairCount ws) (λ e. omega arith) ∙ sym (some-broken l)
 
+  -- ---- and exactly if the smallest margin is not negative
+
+  module _ (some : 0 < pairCount ws) where
+    none-below : nonNeg (smallest ws t s .margin) ≡ true → pairCount ws ≤ firstBroken ws t s
+    none-below n = go (lt-or-le (firstBroken ws t s) (pairCount ws))
+      where
+        go : (firstBroken ws t s < pairCount ws) ⊎ (pairCount ws ≤ firstBroken ws t s) → pairCount ws ≤ firstBroken ws t s
+        go (inr h) = h
+        go (inl h) =
+            absurd (false≢true (sym (not-true _ (first-is .passes h)) ∙ met-low ws t s _
+            ∙ not-negative _ _ (smallest-least ws t s some _ (lowRule ws t s _) h) n))
+
+    one-below : nonNeg (smallest ws t s .margin) ≡ false → firstBroken ws t s < pairCount ws
+    one-below n = go (lt-or-le (firstBroken ws t s) (pairCount ws))
+      where
+        go : (firstBroken ws t s < pairCount ws) ⊎ (pairCount ws ≤ firstBroken ws t s) → firstBroken ws t s < pairCount ws
+        go (inl h) = h
+        go (inr h) = absurd (false≢true (sym n ∙ smallest-met ws t s some ∙ not-false _ (first-is .before _ zero-le (omega (arith, smallest-below ws t s some)))))
+
+    pub sign-is : admissible t (pairs ws) s ≡ nonNeg (smallest ws t s .margin)
+    sign-is = go (nonNeg (smallest ws t s .margin)) refl
+      where
+        go : (b : Bool) → nonNeg (smallest ws t s .margin) ≡ b → admissible t (pairs ws) s ≡ b
+        go true n = none-admissible (none-below n)
+        go false n = some-broken (one-below n)
+
 -- ---- the answer for an accepted list
 
-module _ (t : ℕ) (s : List ℕ) {ws : List ℕ} {n count k : ℕ} (list : UsableList ws n count) (first : k ≡ firstBroken ws t s) where
-  pub found-broken : k < count → (rule : Rule) → ruleNumber rule ≡ brokenRule ws t s k → checkReply (Broken k rule) ≡ numbers (found ws t s)
-  unfolding found checkReply
-  found-broken h rule e = rw (e, first, lt-ltb (firstBroken ws t s) (pairCount ws) (omega (arith, list .pairsAre)))
+or-none : (a b : Bool) → a || b ≡ false → (a ≡ false) × (b ≡ false)
+or-none true b e = absurd (false≢true (sym e))
+or-none false b e = (refl, e)
 
-  pub found-none : count ≤ k → checkReply Admissible ≡ numbers (found ws t s)
-  unfolding found checkReply
-  found-none h = rw (le-ltb (firstBroken ws t s) (pairCount ws) (omega (arith, list .pairsAre)))
-
--- ---- nothing is found exactly in the admissible schedules
+-- no timing is above the limit
+time-within : (s : List ℕ) → someAbove s ≡ false → (r : ℕ) → time s r ≤ maxTiming
+unfolding someAbove
+time-within [] e r = zero-le
+time-within (x ∷ s) e zero = ltb-false _ _ (or-none (ltb maxTiming x) (someAbove s) e .0)
+time-within (x ∷ s) e (suc r) = time-within s (or-none (ltb maxTiming x) (someAbove s) e .1) r
 
 module _ (ws : List ℕ) (t : ℕ) (s : List ℕ) where
-  found-admissible : found ws t s ≡ [] → admissible t (pairs ws) s ≡ true
-  unfolding found
-  found-admissible e = go (ltb (firstBroken ws t s) (pairCount ws)) refl
+  some-pairs : eqb (pairCount ws) 0 ≡ false → 0 < pairCount ws
+  some-pairs e = go (pairCount ws) (eqb-false (pairCount ws) 0 e)
     where
-      go : (b : Bool) → ltb (firstBroken ws t s) (pairCount ws) ≡ b → admissible t (pairs ws) s ≡ true
-      go true l =
-          let z : _≡_ {A = ℕ} 0 1 = cc in
-          absurd (omega arith)
-      go false l = none-admissible ws t s (ltb-false _ _ l)
+      go : (m : ℕ) → (m ≡ 0 → ⊥) → 0 < m
+      go zero none = absurd (none refl)
+      go (suc m) none = omega arith
 
-  admissible-found : admissible t (pairs ws) s ≡ true → found ws t s ≡ []
-  unfolding found
-  admissible-found a = go (ltb (firstBroken ws t s) (pairCount ws)) refl
+  -- what holds of each of its cases
+  answer-by : (P : Checking → Type 0) → (pairCount ws ≡ 0 → P NoPairs)
+      → (0 < pairCount ws → pairCount ws ≤ firstBroken ws t s → P (Admissible (smallest ws t s)))
+      → (0 < pairCount ws → firstBroken ws t s < pairCount ws → P (Broken (firstBroken ws t s) (brokenRule ws t s (firstBroken ws t s)) (smallest ws t s)))
+      → P (answerFor ws t s)
+  unfolding answerFor
+  answer-by P none met broken = go (eqb (pairCount ws) 0) refl (ltb (firstBroken ws t s) (pairCount ws)) refl
     where
-      go : (b : Bool) → ltb (firstBroken ws t s) (pairCount ws) ≡ b → found ws t s ≡ []
-      go true l = absurd (admissible-none ws t s a (ltb-true _ _ l))
-      go false l = rw l
+      go : (b : Bool) → eqb (pairCount ws) 0 ≡ b → (c : Bool) → ltb (firstBroken ws t s) (pairCount ws) ≡ c
+          → P (cond b NoPairs (cond c (Broken (firstBroken ws t s) (brokenRule ws t s (firstBroken ws t s)) (smallest ws t s)) (Admissible (smallest ws t s))))
+      go true e c q = none (eqb-true (pairCount ws) 0 e)
+      go false e true q = let l = ltb-true (firstBroken ws t s) (pairCount ws) q in broken (omega arith) l
+      go false e false q = met (some-pairs e) (ltb-false (firstBroken ws t s) (pairCount ws) q)
 
-  reply-none : (r : Checking) → checkReply r ≡ numbers [] → r ≡ Admissible
+  -- its numbers
+  answer-told : checkReply (answerFor ws t s) ≡ numbers (checkValues (answerFor ws t s))
   unfolding checkReply
-  reply-none Admissible e = refl
-  reply-none (Broken k rule) e = cc
-  reply-none (Refused number place) e = cc
+  answer-told = answer-by (λ r. checkReply r ≡ numbers (checkValues r)) (λ e. refl) (λ h l. refl) (λ h l. refl)
 
-  -- ---- the call
+  answer-admits : admits (answerFor ws t s) ≡ admissible t (pairs ws) s
+  unfolding admits
+  answer-admits =
+      answer-by (λ r. admits r ≡ admissible t (pairs ws) s) (λ e. sym (none-admissible ws t s (omega arith)))
+      (λ h l. sym (none-admissible ws t s l)) (λ h l. sym (some-broken ws t s l))
 
-  -- Each way to end settles what the run of checks finds, and with it the outcome; the reply follows by computation. A refusal is
-  -- not `Admissible`, and its checks find something: it promises no more. Where the pairs decide, nothing is found exactly in the
-  -- admissible schedules, as above.
+  answer-none : answerFor ws t s ≡ NoPairs → pairCount ws ≡ 0
+  answer-none = answer-by (λ r. r ≡ NoPairs → pairCount ws ≡ 0) (λ e q. e) (λ h l q. cc) (λ h l q. cc)
+
+  answer-some : pairCount ws ≡ 0 → answerFor ws t s ≡ NoPairs
+  answer-some e = answer-by (λ r. r ≡ NoPairs) (λ z. refl) (λ h l. absurd (omega arith)) (λ h l. absurd (omega arith))
+
+  module _ (usable : IsUsable ws) (few : t ≤ maxPeriod) (limit : (r : ℕ) → time s r ≤ maxTiming) where
+    margin-within : (k : ℕ) → k < pairCount ws → (rule : Rule) → mag (marginAt ws t s k rule) < suc (maxTiming + maxPeriod)
+    unfolding marginAt
+    margin-within k h Setup =
+        let p = pairAt ws k in
+        let v = is-pair ws k (record { usable = usable; below = h }) .values in
+        size (time s (p .capture) + t) (time s (p .launch) + p .greatest) (suc (maxTiming + maxPeriod))
+        (omega (arith, few, limit (p .capture))) (omega (arith, limit (p .launch), v .limit))
+    margin-within k h Hold =
+        let p = pairAt ws k in
+        let v = is-pair ws k (record { usable = usable; below = h }) .values in
+        size (time s (p .launch) + p .least) (time s (p .capture)) (suc (maxTiming + maxPeriod))
+        (omega (arith, limit (p .launch), v .order, v .limit)) (omega (arith, limit (p .capture)))
+
+    smallest-all : 0 < pairCount ws → IsSmallest ws t s (smallest ws t s)
+    smallest-all h =
+        record {
+          below = smallest-below ws t s h;
+          is = smallest-is ws t s h;
+          smallest = smallest-least ws t s h;
+          first = smallest-first ws t s h;
+          sign = sign-is ws t s h;
+          within = let m = margin-within (smallest ws t s .pair) (smallest-below ws t s h) (smallest ws t s .rule) in rw (smallest-is ws t s h) (omega arith);
+        }
+
+    answer-margin : Each (IsSmallest ws t s) (reported (answerFor ws t s))
+    unfolding reported
+    answer-margin = answer-by (λ r. Each (IsSmallest ws t s) (reported r)) (λ e. tt) (λ h l. (smallest-all h, tt)) (λ h l. (smallest-all h, tt))
+
+-- from the walk over all pairs
+module _ (t : ℕ) (s : List ℕ) {ws : List ℕ} {n count : ℕ} (list : UsableList ws n count) where
+  pub by-none : count ≡ 0 → NoPairs ≡ answerFor ws t s
+  by-none e = sym (answer-some ws t s (sym (list .pairsAre) ∙ e))
+
+  module _ {w : Walk} (walk : Walked ws t s count w) (some : 0 < count) where
+    all-pairs : w .smallest ≡ smallest ws t s
+    unfolding smallest
+    all-pairs = rw (← list .pairsAre) (walk .smallest)
+
+    some-pair : 0 < pairCount ws
+    some-pair = rw (list .pairsAre) at some
+
+    sign-as : {b : Bool} → leZ (pos 0) (w .smallest .margin) ≡ b → nonNeg (smallest ws t s .margin) ≡ b
+    sign-as e = rw (← all-pairs) (sym (at-least-nought (w .smallest .margin)) ∙ e)
+
+    pub by-met : leZ (pos 0) (w .smallest .margin) ≡ true → Admissible (w .smallest) ≡ answerFor ws t s
+    by-met e =
+        let none = none-below ws t s some-pair (sign-as e) in
+        answer-by ws t s (λ r. Admissible (w .smallest) ≡ r) (λ z. absurd (omega arith)) (λ h l. ap Admissible all-pairs)
+        (λ h l. absurd (omega arith))
+
+    module _ (e : leZ (pos 0) (w .smallest .margin) ≡ false) where
+      broken-is : w .broken ≡ firstBroken ws t s
+      broken-is = walk .broken (sym (at-least-nought (w .smallest .margin)) ∙ e)
+
+      pub by-broken : {rule : Rule} → rule ≡ brokenRule ws t s (w .broken) → Broken (w .broken) rule (w .smallest) ≡ answerFor ws t s
+      by-broken {rule} is =
+          let one = one-below ws t s some-pair (sign-as e) in
+          answer-by ws t s (λ r. Broken (w .broken) rule (w .smallest) ≡ r) (λ z. absurd (omega arith)) (λ h l. absurd (omega arith))
+          (λ h l. rw (is, broken-is, all-pairs))
+
+      pub broken-in : PairIn ws (w .broken)
+      broken-in = record { usable = list .usable; below = rw broken-is (one-below ws t s some-pair (sign-as e)) }
+
+-- ---- the call
+
+module _ (ws : List ℕ) (t : ℕ) (s : List ℕ) where
+  -- Each way to end settles what the run of checks finds, and with it the outcome; the reply follows by computation. A refusal does
+  -- not admit the schedule, and its checks find something: it promises no more. Where the pairs decide, the answer is that of the definition.
 
   -- the call is refused
   refuses : {number place : ℕ} → firstFault (checkChecks ws t s) ≡ At number place → checking ws t s ≡ refused number place
       → CheckedAs ws t s (Refused number place)
-  unfolding replyOf checkReply
+  unfolding replyOf checkReply admits reported
   refuses f e =
       record {
         reply = rw e;
-        sound = λ a. let z : _≡_ {A = ℕ} 0 1 = cc in absurd (omega arith);
+        sound = λ a. cc;
         complete = λ a n. let z : _≡_ {A = ℕ} 0 1 = cc in absurd (omega arith);
+        margin = tt;
+        none = λ q. cc;
+        some = λ n q. let z : _≡_ {A = ℕ} 0 1 = cc in absurd (omega arith);
       }
 
   pub by-list : {number place : ℕ} → verdict ws ≡ Verdict.Refused number place → CheckedAs ws t s (Refused number place)
@@ -197,15 +279,22 @@ module _ (ws : List ℕ) (t : ℕ) (s : List ℕ) where
           let a = accepted→none ws e in
           still-usable (same _ _ (c .1 .1 .0)) (usable-list ws (a .list))
 
-      pub by-pairs : {r : Checking} → checkReply r ≡ numbers (found ws t s) → CheckedAs ws t s r
-      unfolding checking replyOf checkReply
-      by-pairs {r} told =
-          let e : checking ws t s ≡ done (found ws t s) [] = answered-done (checkChecks ws t s) _ (call-decides ∙ h) in
+      answer-is : CheckedAs ws t s (answerFor ws t s)
+      unfolding checking replyOf
+      answer-is =
+          let c = passed (timingChecks n t s) (sym call ∙ h) in
+          let e : checking ws t s ≡ done (checkValues (answerFor ws t s)) [] = answered-done (checkChecks ws t s) _ (call-decides ∙ h) in
           record {
-            reply = rw e told;
-            sound = λ a. found-admissible (let told′ : numbers [] ≡ numbers (found ws t s) = sym (ap checkReply a) ∙ told in cc);
-            complete = λ a n. reply-none r (told ∙ ap numbers (admissible-found a));
+            reply = rw e (answer-told ws t s);
+            sound = λ a. sym (answer-admits ws t s) ∙ a;
+            complete = λ a n. answer-admits ws t s ∙ a;
+            margin = answer-margin ws t s (call-ready .usable) (ltb-false _ _ (c .1 .0)) (time-within s (c .1 .1 .1 .0));
+            none = answer-none ws t s;
+            some = λ n q. answer-some ws t s q;
           }
+
+      pub by-pairs : {r : Checking} → r ≡ answerFor ws t s → CheckedAs ws t s r
+      by-pairs is = rw is answer-is
 
 -- ---- the timings
 
@@ -240,13 +329,14 @@ unfolding someAbove
 none-above [] h = refl
 none-above (x ∷ s) h = rw (le-ltb maxTiming x (h 0)) (none-above s (λ r. h (suc r)))
 
--- what is admissible, in range and within the limit passes: no check refuses it, and no pair of it is found
+-- what is admissible, in range and within the limit passes: no check refuses it, and the answer is that it is admissible
 pub admissible-passes : (ws : List ℕ) (t : ℕ) (s : List ℕ) → IsAccepted ws → 1 ≤ t → t ≤ maxPeriod → length s ≡ registers ws
     → ((r : ℕ) → time s r ≤ maxTiming) → admissible t (pairs ws) s ≡ true → Passes ws t s
-unfolding checking
 admissible-passes ws t s a from upto size limit meets =
-    answered-done (checkChecks ws t s) _ (pass-both (listChecks ws) (timingChecks (registers ws) t s) (accepted→none ws a .none) call)
-    ∙ ap (λ (xs : List ℕ). done xs []) (admissible-found ws t s meets)
+    record {
+      accepted = pass-both (listChecks ws) (timingChecks (registers ws) t s) (accepted→none ws a .none) call;
+      admitted = answer-admits ws t s ∙ meets;
+    }
   where
     call : firstFault (timingChecks (registers ws) t s) ≡ None
     call = passes (timingChecks (registers ws) t s)

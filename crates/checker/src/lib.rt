@@ -159,11 +159,12 @@ fn checked(words: &[u32], count: usize, period: u32, timings: &[u32]) -> Checkin
         return Checking::NoPairs;
     }
     let walk = walked(words, count, period, timings);
-    if walk.smallest.margin >= 0 {
-        return Checking::Admissible(walk.smallest);
+    let smallest = walk.smallest;
+    if smallest.margin >= 0 {
+        return Checking::Admissible(smallest);
     }
     let rule = broken_rule(words, walk.broken, period, timings);
-    Checking::Broken(walk.broken, rule, walk.smallest)
+    Checking::Broken(walk.broken, rule, smallest)
 }
 
 // Whether some timing is above the limit.

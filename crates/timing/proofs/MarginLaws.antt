@@ -15,7 +15,7 @@ use mir.ValLaws.{toZ-ofZ, toZ-pos}
 
 -- ---- the two cases
 
-lt-or-le : (a b : ℕ) → (a < b) ⊎ (b ≤ a)
+pub lt-or-le : (a b : ℕ) → (a < b) ⊎ (b ≤ a)
 lt-or-le a b = go (ltb a b) refl
   where
     go : (t : Bool) → ltb a b ≡ t → (a < b) ⊎ (b ≤ a)
@@ -59,7 +59,12 @@ minus-is : (a b : ℕ) → pos a -ℤ pos b ≡ subℕ a b
 minus-is a zero = rw (add-zero, above a zero (omega arith), sub-zero)
 minus-is a (suc b) = refl
 
--- in 64 bits
+-- ---- in 64 bits
+
+-- what the machine reads of a number that it holds
+pub as-read : (z : ℤ) → mag z < 2 ^ 63 → toZ w64 (ofZ w64 z) ≡ z
+as-read z h = toZ-ofZ w64 z (record { sfits = h })
+
 module _ (a b : ℕ) (ha : a < 2 ^ 63) (hb : b < 2 ^ 63) where
   read : toZ w64 a -ℤ toZ w64 b ≡ subℕ a b
   read = rw (toZ-pos w64 a ha, toZ-pos w64 b hb) (minus-is a b)

@@ -1,7 +1,7 @@
--- `meets`: whether pair k meets setup, and then hold, at the timings of its two registers.
+-- `meets`: whether the setup margin of pair k is not negative, and then that of hold, at the timings of its two registers.
 use denote.Ref.{now}
-use borrow.Author.Tests.{not-true, not-false}
-use Rattle.checker.proofs.CheckLaws.{met-both, met-not}
+use Rattle.timing.proofs.MarginLaws.{as-read}
+use Rattle.checker.proofs.MarginLaws.{met-both, met-not}
 use borrow.Author.Needs.{needs}
 use Rattle.checker.proofs.meets.Statement.{statement}
 use Rattle.checker.proofs.meets.Tie as tie
@@ -10,14 +10,17 @@ returns : tie.Need-returns
 returns c =
     let b = c .before .before .before .before .before .before in
     let a = b .before .before .before .args in
-    met-not (a .period) (now (a .timings)) (b .pair-at .ensures) (c .before .setup .ensures) (not-true _ (c .if1 .taken))
+    let x = as-read (c .before .setup-margin .result) (c .before .setup-margin .ok) in
+    met-not (a .period) (now (a .timings)) (b .pair-at .ensures) (c .before .setup-margin .ensures) (rw x at (c .if1 .taken))
 
 returns-2 : tie.Need-returns-2
 returns-2 c =
     let i = c .before .before .before in
     let b = i .before .before .before .before .before .before in
     let a = b .before .before .before .args in
-    met-both (a .period) (now (a .timings)) (b .pair-at .ensures) (i .before .setup .ensures) (not-false _ (i .if1 .left)) (c .hold .ensures)
+    let x = as-read (i .before .setup-margin .result) (i .before .setup-margin .ok) in
+    rw (as-read (c .hold-margin .result) (c .hold-margin .ok))
+    (met-both (a .period) (now (a .timings)) (b .pair-at .ensures) (i .before .setup-margin .ensures) (c .hold-margin .ensures) (rw x at (i .if1 .left)))
 
 pub meets-spec : {M : Type 1} → statement M
 meets-spec =
