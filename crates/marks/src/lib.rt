@@ -154,7 +154,8 @@ pub fn time_of(offset: u32, mark: u32) -> u32
 fn meets(pair: Pair, period: u32, launch_time: u32, capture_time: u32) -> bool
     ensures { λ r. ⌜ r ≡ pairMet pair period «launch_time» «capture_time» ⌝ }
 {
-    pair.setup(period, launch_time, capture_time) && pair.hold(launch_time, capture_time)
+    pair.setup_margin(period, launch_time, capture_time) >= 0
+        && pair.hold_margin(launch_time, capture_time) >= 0
 }
 
 // 1 where the choice of row k breaks a rule of the pair, else 0.

@@ -65,6 +65,9 @@ minus-is a (suc b) = refl
 pub as-read : (z : ℤ) → mag z < 2 ^ 63 → toZ w64 (ofZ w64 z) ≡ z
 as-read z h = toZ-ofZ w64 z (record { sfits = h })
 
+pub sign-read : (z : ℤ) → mag z < 2 ^ 63 → leZ (pos 0) (toZ w64 (ofZ w64 z)) ≡ nonNeg z
+sign-read z h = rw (as-read z h) (at-least-nought z)
+
 module _ (a b : ℕ) (ha : a < 2 ^ 63) (hb : b < 2 ^ 63) where
   read : toZ w64 a -ℤ toZ w64 b ≡ subℕ a b
   read = rw (toZ-pos w64 a ha, toZ-pos w64 b hb) (minus-is a b)
