@@ -249,6 +249,7 @@ module _ (ws : List ℕ) (t : ℕ) (s : List ℕ) where
   refuses f e =
       record {
         reply = rw e;
+        answer = λ n. let z : _≡_ {A = ℕ} 0 1 = cc in absurd (omega arith);
         sound = λ a. cc;
         complete = λ a n. let z : _≡_ {A = ℕ} 0 1 = cc in absurd (omega arith);
         margin = tt;
@@ -286,6 +287,7 @@ module _ (ws : List ℕ) (t : ℕ) (s : List ℕ) where
           let e : checking ws t s ≡ done (checkValues (answerFor ws t s)) [] = answered-done (checkChecks ws t s) _ (call-decides ∙ h) in
           record {
             reply = rw e (answer-told ws t s);
+            answer = λ n. refl;
             sound = λ a. sym (answer-admits ws t s) ∙ a;
             complete = λ a n. answer-admits ws t s ∙ a;
             margin = answer-margin ws t s (call-ready .usable) (ltb-false _ _ (c .1 .0)) (time-within s (c .1 .1 .1 .0));

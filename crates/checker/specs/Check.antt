@@ -152,6 +152,7 @@ pub record IsSmallest (ws : List ℕ) (t : ℕ) (s : List ℕ) (x : Smallest) : 
 -- the schedule s was checked against the words ws at the period t
 pub record CheckedAs (ws : List ℕ) (t : ℕ) (s : List ℕ) (r : Checking) : Type 0 where
   pub reply : checkReply r ≡ replyOf (checking ws t s)
+  pub answer : firstFault (checkChecks ws t s) ≡ None → r ≡ answerFor ws t s
   -- only an admissible schedule passes
   pub sound : admits r ≡ true → admissible t (pairs ws) s ≡ true
   -- every admissible schedule passes, unless the call is refused

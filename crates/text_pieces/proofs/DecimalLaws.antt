@@ -1,14 +1,16 @@
--- Decimal numbers: the last digit and what stands before it, and how many digits there are.
-use Prim.Native.Nat.{ℕ, zero, suc, _+_, _/_, _%_, _^_, _≤_, _<_}
-use mathlib.Core.Bool.{Bool, true, false, cond}
+-- Decimal numbers: the last digit and what stands before it, how many digits there are, and a sign.
+use Prim.Native.Nat.{ℕ, zero, suc, _+_, _/_, _%_, _^_, _≤_, _<_, zero-le}
+use mathlib.Core.Bool.{Bool, true, false, cond, false≢true}
 use mathlib.Core.List.{List, [], _∷_, _++_}
-use mathlib.Core.Path.{_≡_, refl}
+use mathlib.Core.Path.{_≡_, refl, sym, ap, _∙_}
 use native.Mathlib.Nat.{pow-suc, pow-succ', div-lt-iff-lt-mul}
 use native.Mathlib.Omega.{arith}
 use lib.Dec.{ltb}
+use lib.IntN.{ℤ, pos, negsuc, natAbs}
 use lib.ListN.{length, length-append}
-use borrow.Author.Tests.{ltb-false, lt-ltb, le-ltb}
-use Rattle.text_pieces.specs.Pieces.{digit, decimalIn, decimal, maxDigits, Put}
+use lib.Signed.{leZ}
+use borrow.Author.Tests.{ltb-false, lt-ltb, le-ltb, le-leb}
+use Rattle.text_pieces.specs.Pieces.{digit, decimalIn, decimal, minus, number, signed, maxDigits, numberWidth, signedWidth, Put}
 use Rattle.text_pieces.proofs.PutLaws.{put-within, put-then}
 
 -- more digits than are needed change nothing
@@ -61,3 +63,28 @@ module _ {n at next : ℕ} {was now : List ℕ} where
   put-last {mid} {last} h fits p q =
       let few : length (decimal n) ≤ maxDigits = decimal-few 19 n (omega arith) in
       rw (decimal-more n h) (put-within (put-then p q) (rw (decimal-more n h) at few))
+
+-- ---- with a sign
+
+signed-up : (z : ℤ) (end : ℕ) → leZ (pos 0) z ≡ true → number (natAbs z) end ≡ signed z end
+unfolding signed
+signed-up (pos n) end e = refl
+signed-up (negsuc n) end e = absurd (false≢true e)
+
+signed-down : (z : ℤ) (end : ℕ) → leZ (pos 0) z ≡ false → minus ∷ number (natAbs z) end ≡ signed z end
+unfolding signed
+signed-down (pos n) end e = absurd (false≢true (sym e ∙ le-leb 0 n zero-le))
+signed-down (negsuc n) end e = refl
+
+-- z as the machine reads it, and its size
+module _ (z : ℤ) (end : ℕ) {x : ℤ} (read : x ≡ z) {n : ℕ} (size : n ≡ natAbs x) {at next : ℕ} {was now : List ℕ} where
+  pub put-up : leZ (pos 0) x ≡ true → Put numberWidth (number n end) was at now next → Put signedWidth (signed z end) was at now next
+  put-up e p =
+      let piece : number n end ≡ signed z end = ap (λ k. number k end) (size ∙ ap natAbs read) ∙ signed-up z end (rw read at e) in
+      rw (← piece) (put-within p (omega (arith, p .most)))
+
+  pub put-down : {mid : List ℕ} {last : ℕ} → leZ (pos 0) x ≡ false → Put 1 (minus ∷ []) was at mid last
+      → Put numberWidth (number n end) mid last now next → Put signedWidth (signed z end) was at now next
+  put-down e m p =
+      let piece : minus ∷ number n end ≡ signed z end = ap (λ k. minus ∷ number k end) (size ∙ ap natAbs read) ∙ signed-down z end (rw read at e) in
+      rw (← piece) (put-then m p)

@@ -6,6 +6,7 @@ use mathlib.Core.Bool.{cond}
 use mathlib.Core.List.{List, [], _∷_, _++_}
 use mathlib.Core.Path.{_≡_}
 use lib.Dec.{ltb}
+use lib.IntN.{ℤ, pos, negsuc}
 use lib.ListN.{length, take}
 use Rattle.buffers.specs.Over.{over}
 
@@ -35,9 +36,18 @@ decimalIn (suc k) n =
 unfoldable pub decimal : ℕ → List ℕ
 decimal n = decimalIn (suc n) n
 
+-- the byte of a minus sign
+abbrev pub minus : ℕ
+minus = 45
+
 -- a number, and the byte that ends it
 abbrev pub number : ℕ → ℕ → List ℕ
 number n end = decimal n ++ (end ∷ [])
+
+-- a number with sign, and the byte that ends it
+unfoldable pub signed : ℤ → ℕ → List ℕ
+signed (pos n) end = number n end
+signed (negsuc n) end = minus ∷ number (suc n) end
 
 -- a name, its number, and the byte that ends it
 abbrev pub named : List ℕ → ℕ → ℕ → List ℕ
@@ -62,6 +72,10 @@ maxDigits = 20
 -- a number, and the byte that ends it
 abbrev pub numberWidth : ℕ
 numberWidth = maxDigits + 1
+
+-- with a sign
+abbrev pub signedWidth : ℕ
+signedWidth = 1 + numberWidth
 
 -- "refused " and "at " with their numbers
 abbrev pub refusedWidth : ℕ

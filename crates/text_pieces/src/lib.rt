@@ -4,13 +4,17 @@
 ghost use mathlib.Core.List.{[], _∷_};
 ghost use Prim.Native.Nat.{_+_, _≤_, _<_};
 ghost use lib.ListN.{length};
-ghost use Rattle.text_pieces.specs.Pieces.{digit, decimal, number, named, refusedAt, maxDigits, numberWidth, refusedWidth, Put};
+ghost use Rattle.text_pieces.specs.Pieces.{digit, decimal, number, signed, named, refusedAt};
+ghost use Rattle.text_pieces.specs.Pieces.{maxDigits, numberWidth, signedWidth, refusedWidth, Put};
 
 // The most digits of a number of 64 bits.
 const MAX_DIGITS: usize = 20;
 
 // The most bytes of a number and the byte that ends it.
 pub const NUMBER_WIDTH: usize = MAX_DIGITS + 1;
+
+// With a sign.
+pub const SIGNED_WIDTH: usize = 1 + NUMBER_WIDTH;
 
 // The most bytes of `refused ` and `at ` with their numbers.
 pub const REFUSED_WIDTH: usize = 8 + NUMBER_WIDTH + (3 + NUMBER_WIDTH);
@@ -55,6 +59,18 @@ pub fn put_number(text: &mut [u8], at: usize, n: u64, end: u8) -> usize
 {
     let last = put_decimal(text, at, n);
     put_byte(text, last, end)
+}
+
+// A number with sign, and the byte that ends it.
+pub fn put_signed(text: &mut [u8], at: usize, z: i64, end: u8) -> usize
+    requires { ⌜ at + signedWidth ≤ length (now text) ⌝ }
+    ensures { λ r. ⌜ Put signedWidth (signed z end) (now (text .entry)) at (now (text .exit)) r ⌝ }
+{
+    if z >= 0 {
+        return put_number(text, at, words::magnitude(z), end);
+    }
+    let last = put_byte(text, at, b'-');
+    put_number(text, last, words::magnitude(z), end)
 }
 
 pub fn put_bytes(text: &mut [u8], at: usize, bytes: &[u8]) -> usize

@@ -2,6 +2,7 @@
 use Prim.Native.Nat.{ℕ, suc, _+_, _-_, _^_, _<_, _≤_, zero-le}
 use mathlib.Core.Bool.{Bool, true, false, false≢true}
 use mathlib.Core.Path.{_≡_, refl, sym, ap, _∙_}
+use native.Mathlib.Numerals.{add-one}
 use native.Mathlib.Omega.{arith}
 use borrow.Author.Tests.{lt-ltb, le-ltb, le-leb}
 use lib.Dec.{T}
@@ -42,18 +43,19 @@ unfolding signedWord
 up (pos n) fits e = (tt, record { fits = half-full (fits .sfits) }, refl)
 up (negsuc n) fits e = absurd (false≢true e)
 
--- of a negative one, -1 - z is what the largest word lacks
+-- of a negative one: -1 - z, which fits, is one less than its size
 pub record Lacking (z : ℤ) : Type 0 where
   pub lacks : negsuc 0 -ℤ z ≡ pos (mag z)
   pub fits : SFits w64 (negsuc 0 -ℤ z)
-  pub most : mag z < 2 ^ 64
-  pub word : largest - mag z ≡ signedWord z
+  pub most : mag z < 2 ^ 63
+  pub size : mag z + 1 ≡ natAbs z
+  pub word : largest - natAbs z + 1 ≡ signedWord z
 
 pub down : (z : ℤ) → SFits w64 z → leZ (pos 0) z ≡ false → Lacking z
 unfolding signedWord
 down (pos n) fits e = absurd (false≢true (sym e ∙ le-leb 0 n zero-le))
 down (negsuc n) fits e =
-    record { lacks = is; fits = rw is (record { sfits = fits .sfits }); most = half-full (fits .sfits); word = omega arith }
+    record { lacks = is; fits = rw is (record { sfits = fits .sfits }); most = fits .sfits; size = add-one n; word = omega (arith, fits .sfits) }
   where
     is : negsuc 0 -ℤ negsuc n ≡ pos n
     is =

@@ -1,17 +1,18 @@
 // The 32-bit words of a delay list: their fields, how they are made, their sum, and their bytes in a file.
-// And a number with sign as a word of 64 bits.
-// The contracts cite `specs/Word.antt`, `specs/Bytes.antt` and `specs/Signed.antt`.
+// And a number with sign as a word of 64 bits. The contracts cite `specs/Word.antt`, `specs/Bytes.antt` and `specs/Signed.antt`.
 mod bytes;
+mod signed;
 
 pub use bytes::to_bytes;
 pub use bytes::to_words;
+pub use signed::magnitude;
+pub use signed::signed_word;
 ghost use mathlib.Core.Path.{_≡_};
 ghost use Prim.Native.Nat.{_-_, _^_, _<_, _≤_};
 ghost use lib.ListN.{length, take};
 ghost use Rattle.words.specs.Word.{wordBits, payloadBits, countBits, registerBits, kindOf, payloadOf, headPairs, headRegisters, headSpare};
 ghost use Rattle.words.specs.Word.{captureOf, launchOf, pairSpare, wordOf, headWord, pairWord, wrappedSum, checksum};
 ghost use Rattle.words.specs.Word.{needBits, holdOf, setupOf, needsSpare, needsWord};
-ghost use Rattle.words.specs.Signed.{signedWord};
 
 // The kinds of words.
 pub const KIND_HEAD: u32 = 1;
@@ -44,9 +45,6 @@ const HEAD_USED: u32 = COUNT * REGISTER;
 const PAIR_USED: u32 = REGISTER * REGISTER;
 
 const NEEDS_USED: u32 = NEED * NEED;
-
-// The largest word of 64 bits: that of -1.
-const LARGEST: u64 = 0xffff_ffff_ffff_ffff;
 
 pub fn kind(w: u32) -> u32
     ensures { λ r. ⌜ r ≡ kindOf w ⌝ }
@@ -170,14 +168,4 @@ pub fn end_payload(words: &[u32], count: usize) -> u32
     ensures { λ r. ⌜ r ≡ checksum (take count (now (words .entry))) ⌝ }
 {
     payload(sum(words, count))
-}
-
-// A number with sign as a word of 64 bits.
-pub fn signed_word(x: i64) -> u64
-    ensures { λ r. ⌜ r ≡ signedWord x ⌝ }
-{
-    if x >= 0 {
-        return x as u64;
-    }
-    LARGEST - (-1 - x) as u64
 }

@@ -32,10 +32,12 @@ smaller-margin-requires-2 c κs =
 loop-again : tie.Need-loop-again Inv-loop μ-loop
 loop-again c =
     let l = c .before .before .before in
-    let pre = l .before .before .before .before .pre in
-    (omega arith, omega (arith, c .before .before .loop-test .taken),
-    rw (c .walked-on .ensures) (walked-turn (l .loop .inv .2) (omega (arith, l .loop .inv .0))
-    (omega (arith, c .before .before .loop-test .taken, pre .0 .pairsAre)) (c .before .smaller-margin2 .ensures)))
+    let pre = l .before .before .before .before .pre in (
+      omega arith,
+      omega (arith, c .before .before .loop-test .taken),
+      rw (c .walked-on .ensures) (walked-turn (l .loop .inv .2) (omega (arith, l .loop .inv .0))
+          (omega (arith, c .before .before .loop-test .taken, pre .0 .pairsAre)) (c .before .smaller-margin2 .ensures)),
+    )
 
 returns : tie.Need-returns Inv-loop μ-loop
 returns c =

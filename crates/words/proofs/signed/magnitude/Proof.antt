@@ -1,12 +1,11 @@
--- `signed_word`: the number itself, or what the largest word has left. The machine's reading of a number that fits is that number (`toZ-ofZ`).
-use mathlib.Core.Path.{sym, _∙_}
+-- `magnitude`: the number itself, or one more than -1 minus it. The machine's reading of a number that fits is that number (`toZ-ofZ`).
 use native.Mathlib.Omega.{arith}
 use mir.Syntax.{w64}
 use mir.ValLaws.{toZ-ofZ}
 use Rattle.words.proofs.SignedLaws.{up, down}
 use borrow.Author.Needs.{needs}
-use Rattle.words.proofs.signed_word.Statement.{statement}
-use Rattle.words.proofs.signed_word.Tie as tie
+use Rattle.words.proofs.signed.magnitude.Statement.{statement}
+use Rattle.words.proofs.signed.magnitude.Tie as tie
 
 cast-result : tie.Need-cast-result
 cast-result c =
@@ -17,7 +16,7 @@ cast-result c =
 returns : tie.Need-returns
 returns c =
     let x = toZ-ofZ w64 _ (c .before .fits .x) in
-    rw x (up _ (c .before .fits .x) (rw x at (c .if1 .taken)) .2)
+    rw x
 
 sub-result : tie.Need-sub-result
 sub-result c =
@@ -28,10 +27,10 @@ cast-result-2 : tie.Need-cast-result-2
 cast-result-2 c =
     let x = toZ-ofZ w64 _ (c .before .fits .x) in
     let d = down _ (c .before .fits .x) (rw x at (c .if1 .left)) in
-    rw (x, toZ-ofZ w64 _ (d .fits), d .lacks) (tt, record { fits = d .most })
+    rw (x, toZ-ofZ w64 _ (d .fits), d .lacks) (tt, record { fits = omega (arith, d .most) })
 
-sub-result-2 : tie.Need-sub-result-2
-sub-result-2 c =
+add-result : tie.Need-add-result
+add-result c =
     let x = toZ-ofZ w64 _ (c .before .fits .x) in
     let d = down _ (c .before .fits .x) (rw x at (c .if1 .left)) in
     rw (x, toZ-ofZ w64 _ (d .fits), d .lacks) (omega (arith, d .most))
@@ -40,8 +39,8 @@ returns-2 : tie.Need-returns-2
 returns-2 c =
     let x = toZ-ofZ w64 _ (c .before .fits .x) in
     let d = down _ (c .before .fits .x) (rw x at (c .if1 .left)) in
-    rw (x, toZ-ofZ w64 _ (d .fits), d .lacks) (d .word)
+    rw (x, toZ-ofZ w64 _ (d .fits), d .lacks) (d .size)
 
-pub signed-word-spec : {M : Type 1} → statement M
-signed-word-spec =
-    tie.close (tie.spec cast-result returns sub-result cast-result-2 sub-result-2 returns-2)
+pub magnitude-spec : {M : Type 1} → statement M
+magnitude-spec =
+    tie.close (tie.spec cast-result returns sub-result cast-result-2 add-result returns-2)
