@@ -34,6 +34,7 @@ use Rattle.checker.specs.Check.{marginAt, lowRule, smallest, metAt, firs
 use Rattle.checker.specs.Check.{someAbove, timingChecks, checkChecks, checking, admits, reported, Passes, IsSmallest, CheckedAs}
 use Rattle.checker.specs.declared.Rule.{Rule}
 use Rattle.checker.specs.declared.Rule.the-variants.{Setup, Hold}
+use Rattle.checker.specs.declared.Smallest.{Smallest}
 use Rattle.checker.specs.declared.Walk.{Walk}
 use Rattle.checker.specs.declared.Checking.{Checking}
 use Rattle.checker.specs.declared.Checking.the-variants.{NoPairs, Admissible, Broken, Refused}
@@ -171,6 +172,12 @@ module _ (ws : List ℕ) (t : ℕ) (s : List ℕ) where
 
   answer-some : pairCount ws ≡ 0 → answerFor ws t s ≡ NoPairs
   answer-some e = answer-by (λ r. r ≡ NoPairs) (λ z. refl) (λ h l. absurd (omega arith)) (λ h l. absurd (omega arith))
+
+  -- only a pair of the list is named
+  pub broken-below : {k : ℕ} {rule : Rule} {x : Smallest} → Broken k rule x ≡ answerFor ws t s → k < pairCount ws
+  broken-below {k} {rule} {x} =
+      answer-by (λ r. Broken k rule x ≡ r → k < pairCount ws) (λ e q. let z : _≡_ {A = ℕ} 0 1 = cc in absurd (omega arith))
+      (λ h l q. let z : _≡_ {A = ℕ} 0 1 = cc in absurd (omega arith)) (λ h l q. let same : k ≡ firstBroken ws t s = cc in omega arith)
 
   module _ (usable : IsUsable ws) (few : t ≤ maxPeriod) (limit : (r : ℕ) → time s r ≤ maxTiming) where
     margin-within : (k : ℕ) → k < pairCount ws → (rule : Rule) → mag (marginAt ws t s k rule) < suc (maxTiming + maxPeriod)
