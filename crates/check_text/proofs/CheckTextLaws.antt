@@ -1,28 +1,31 @@
--- From what checking and scanning promise to the line that is stored: a fault in the text, a refusal, an admissible schedule,
+-- From what checking and scanning promise to the text that is stored: a fault in the text, a refusal, no pairs, an admissible schedule,
 -- or the first pair that breaks a rule.
 use Prim.Native.Nat.{ℕ, _≤_, _<_}
-use mathlib.Core.Bool.{Bool, true, false}
-use mathlib.Core.List.{List, [], _∷_, _++_}
+use mathlib.Core.Bool.{false}
+use mathlib.Core.List.{List, [], _∷_}
 use mathlib.Core.Path.{_≡_, refl, sym, ap, subst, _∙_}
 use native.Mathlib.Omega.{arith}
-use lib.Dec.{ltb}
 use lib.ListN.{length, take}
-use borrow.Author.Tests.{ltb-true, le-ltb, eq-eqb, ne-eqb}
+use borrow.Author.Tests.{le-ltb, eq-eqb, ne-eqb}
 use Rattle.timing.specs.Limits.{maxPeriod}
+use Rattle.timing.specs.Rules.{Each}
 use Rattle.timing.specs.declared.Pair.{Pair}
-use Rattle.refusals.specs.Reply.{numbers, done, replyOf, told}
-use Rattle.refusals.proofs.ReplyLaws.{numbers-done, told-refusal, told-numbers}
-use Rattle.list_format.specs.Lists.{registers, pairCount, PairIn, IsPair}
+use Rattle.refusals.specs.Checks.{firstFault}
+use Rattle.refusals.specs.Reply.{numbers, told}
+use Rattle.refusals.specs.declared.Fault.the-variants.{None}
+use Rattle.refusals.proofs.ReplyLaws.{numbers-none, told-refusal, told-numbers}
+use Rattle.list_format.specs.Lists.{registers, pairAt, PairIn, IsPair, IsUsable}
 use Rattle.list_format.proofs.ListLaws.{numbers-in, list-usable}
-use Rattle.checker.specs.Check.{firstBroken, found, timingChecks, checkChecks, checking, ruleNumber, checkReply, CheckedAs}
+use Rattle.checker.specs.Check.{timingChecks, checkChecks, checking, checkValues, checkReply, reported, IsSmallest, CheckedAs}
 use Rattle.checker.specs.declared.Rule.{Rule}
+use Rattle.checker.specs.declared.Smallest.{Smallest}
 use Rattle.checker.specs.declared.Checking.{Checking}
-use Rattle.checker.specs.declared.Checking.the-variants.{Admissible, Broken, Refused}
-use Rattle.text_pieces.specs.Pieces.{Put, letters, named, space}
+use Rattle.checker.specs.declared.Checking.the-variants.{NoPairs, Admissible, Broken, Refused}
+use Rattle.checker.proofs.CheckLaws.{broken-below}
+use Rattle.text_pieces.specs.Pieces.{Put, letters}
 use Rattle.text_pieces.specs.Saying.{SaidAs, text as sayText, trouble as sayTrouble}
 use Rattle.text_pieces.specs.declared.Said.{Said}
 use Rattle.text_pieces.specs.declared.Said.the-variants.{Text, Trouble}
-use Rattle.text_pieces.proofs.PutLaws.{put-within}
 use Rattle.text_pieces.proofs.SaidLaws.{said-text, said-trouble}
 use Rattle.refusal_text.specs.RefusalText.{lineWidth, causedLine, faultLine}
 use Rattle.list_bytes.specs.ListBytes.{listOf}
@@ -30,8 +33,7 @@ use Rattle.scan.specs.declared.Scanned.{Scanned}
 use Rattle.scan.specs.declared.Scanned.the-variants.{Numbers, Faulty}
 use Rattle.scan.specs.Scan.{ScanAs}
 use Rattle.scan.proofs.StoredLaws.{stored-front}
-use Rattle.check_text.specs.CheckText.{linePlaces, ruleWords, registersWords, brokenLine, foundLine, foundSaid}
-use Rattle.check_text.specs.CheckText.{checkCause, checkRefused, checkedLine, scannedLine, checkText}
+use Rattle.check_text.specs.CheckText.{textPlaces, answerText, answerSaid, checkCause, checkRefused, checkedSaid, scannedSaid, checkText}
 
 -- no words have no registers
 pub no-registers : (ws : List ℕ) → length ws ≡ 0 → 0 ≡ registers ws
@@ -50,81 +52,96 @@ module _ (ws : List ℕ) {t count number n : ℕ} (e : number ≡ 3) (some : t �
 
 -- ---- the schedule
 
--- only a pair of the list is found
-found-below : (ws s : List ℕ) (t : ℕ) {k rule : ℕ} → k ∷ rule ∷ [] ≡ found ws t s → k < pairCount ws
-unfolding found
-found-below ws s t {k} {rule} e = go (ltb (firstBroken ws t s) (pairCount ws)) refl
-  where
-    go : (b : Bool) → ltb (firstBroken ws t s) (pairCount ws) ≡ b → k < pairCount ws
-    go true l =
-        let below = ltb-true (firstBroken ws t s) (pairCount ws) l in
-        let same : k ≡ firstBroken ws t s = cc in
-        omega arith
-    go false l =
-        let z : _≡_ {A = ℕ} 0 1 = cc in
-        absurd (omega arith)
-
 module _ {ws s : List ℕ} {t : ℕ} {r : Checking} (a : CheckedAs ws t s r) where
-  pub line-refused : {number place next : ℕ} {text text′ : List ℕ} → r ≡ Refused number place
+  pub said-refused : {number place next : ℕ} {text text′ : List ℕ} → r ≡ Refused number place
       → Put lineWidth (causedLine number place (checkCause ws t (length s) number)) text 0 text′ next
-      → SaidAs linePlaces (checkedLine ws t s) text text′ (Trouble next)
-  unfolding checkReply checkedLine
-  line-refused e put = rw (told-refusal (checkRefused ws t (length s)) (foundSaid ws) (checking ws t s) (rw e at (a .reply))) (said-trouble put (omega arith))
+      → SaidAs textPlaces (checkedSaid ws t s) text text′ (Trouble next)
+  unfolding checkReply checkedSaid
+  said-refused e put =
+      rw (told-refusal (checkRefused ws t (length s)) (answerSaid ws t s) (checking ws t s) (rw e at (a .reply))) (said-trouble put (omega arith))
 
-  line-by : {xs : List ℕ} → numbers xs ≡ checkReply r → checkedLine ws t s ≡ sayText (foundLine ws xs)
-  unfolding checkedLine
-  line-by e = told-numbers (checkRefused ws t (length s)) (foundSaid ws) [] (λ xs ys. refl) (checking ws t s) (e ∙ a .reply)
+  -- of any other answer the numbers are returned
+  module _ (told : numbers (checkValues r) ≡ checkReply r) where
+    accepted : firstFault (checkChecks ws t s) ≡ None
+    unfolding checking
+    accepted = numbers-none (firstFault (checkChecks ws t s)) _ (told ∙ a .reply)
 
-  pub line-admissible : {next : ℕ} {text text′ : List ℕ} → r ≡ Admissible → Put 11 (letters "admissible\n") text 0 text′ next
-      → SaidAs linePlaces (checkedLine ws t s) text text′ (Text next)
-  unfolding checkReply foundLine
-  line-admissible e put = rw (line-by {xs = []} (rw e)) (said-text put (omega arith))
+    usable : IsUsable ws
+    unfolding checking
+    usable = list-usable ws (numbers-in ws (timingChecks (registers ws) t s) _ (told ∙ a .reply))
 
-  module _ {k : ℕ} {rule : Rule} (e : r ≡ Broken k rule) where
-    broken-told : numbers (k ∷ ruleNumber rule ∷ []) ≡ checkReply r
+    said-by : checkedSaid ws t s ≡ sayText (answerText ws r)
+    unfolding checkedSaid
+    said-by =
+        told-numbers (checkRefused ws t (length s)) (answerSaid ws t s) [] (λ xs ys. refl) (checking ws t s) (told ∙ a .reply)
+        ∙ ap (λ (q : Checking). sayText (answerText ws q)) (sym (a .answer accepted))
+
+  said-as : {y : Checking} {w next : ℕ} {text text′ : List ℕ} → r ≡ y → numbers (checkValues y) ≡ checkReply y
+      → Put w (answerText ws y) text 0 text′ next → w ≤ textPlaces → SaidAs textPlaces (checkedSaid ws t s) text text′ (Text next)
+  said-as e told put h = rw (said-by (rw e told), e) (said-text put h)
+
+  pub said-none : {next : ℕ} {text text′ : List ℕ} → r ≡ NoPairs → Put 20 (letters "admissible\nno pairs\n") text 0 text′ next
+      → SaidAs textPlaces (checkedSaid ws t s) text text′ (Text next)
+  unfolding checkReply answerText
+  said-none e put = said-as e refl put (omega arith)
+
+  module _ {x : Smallest} (e : r ≡ Admissible x) where
+    told-met : numbers (checkValues r) ≡ checkReply r
     unfolding checkReply
-    broken-told = rw e
+    told-met = rw e
+
+    pub met-in : PairIn ws (x .pair)
+    unfolding reported
+    met-in =
+        let margin : Each (IsSmallest ws t s) (reported (Admissible x)) = rw e at (a .margin) in
+        record { usable = usable told-met; below = margin .0 .below }
+
+    pub said-met : {next : ℕ} {text text′ : List ℕ} → Put textPlaces (answerText ws (Admissible x)) text 0 text′ next
+        → SaidAs textPlaces (checkedSaid ws t s) text text′ (Text next)
+    unfolding checkReply
+    said-met put = said-as e refl put (omega arith)
+
+  module _ {k : ℕ} {rule : Rule} {x : Smallest} (e : r ≡ Broken k rule x) where
+    told-broken : numbers (checkValues r) ≡ checkReply r
+    unfolding checkReply
+    told-broken = rw e
 
     pub broken-in : PairIn ws k
-    unfolding checking replyOf
-    broken-in =
-        let is : checking ws t s ≡ done (found ws t s) [] = numbers-done (checkChecks ws t s) _ (broken-told ∙ a .reply) in
-        let told : numbers (k ∷ ruleNumber rule ∷ []) ≡ numbers (found ws t s) = rw is at (broken-told ∙ a .reply) in
-        record {
-          usable = list-usable ws (numbers-in ws (timingChecks (registers ws) t s) _ (broken-told ∙ a .reply));
-          below = found-below ws s t {rule = ruleNumber rule} cc;
-        }
+    broken-in = record { usable = usable told-broken; below = broken-below ws t s (sym e ∙ a .answer (accepted told-broken)) }
 
-    pub line-broken : {next : ℕ} {text text′ : List ℕ} → Put linePlaces (brokenLine ws k (ruleNumber rule)) text 0 text′ next
-        → SaidAs linePlaces (checkedLine ws t s) text text′ (Text next)
-    unfolding foundLine
-    line-broken put = rw (line-by broken-told) (said-text put (omega arith))
+    pub lowest-in : PairIn ws (x .pair)
+    unfolding reported
+    lowest-in =
+        let margin : Each (IsSmallest ws t s) (reported (Broken k rule x)) = rw e at (a .margin) in
+        record { usable = usable told-broken; below = margin .0 .below }
 
--- a pair by its numbers, stored
-pub pair-put : (rule : ℕ) {ws : List ℕ} {k : ℕ} {p : Pair} {w next : ℕ} {text text′ : List ℕ} → IsPair ws k p
-    → Put w (named (letters "pair ") k space ++ (ruleWords rule ++ registersWords (p .launch) (p .capture))) text 0 text′ next → w ≤ linePlaces
-    → Put linePlaces (brokenLine ws k rule) text 0 text′ next
-unfolding brokenLine
-pair-put rule {ws} {k} {p} {w} {next} {text} {text′} is put h =
-    let same = ap (λ (q : Pair). named (letters "pair ") k space ++ (ruleWords rule ++ registersWords (q .launch) (q .capture))) (is .same) in
-    subst (λ line. Put linePlaces line text 0 text′ next) same (put-within put (omega (arith, put .most)))
+    pub said-broken : {next : ℕ} {text text′ : List ℕ} → Put textPlaces (answerText ws (Broken k rule x)) text 0 text′ next
+        → SaidAs textPlaces (checkedSaid ws t s) text text′ (Text next)
+    unfolding checkReply
+    said-broken put = said-as e refl put (omega arith)
+
+-- words for the registers of a pair that was taken from the list
+pub pair-put : (f : ℕ → ℕ → List ℕ) {ws : List ℕ} {k : ℕ} {p : Pair} {w at next : ℕ} {text text′ : List ℕ} → IsPair ws k p
+    → Put w (f (p .launch) (p .capture)) text at text′ next → Put w (f (pairAt ws k .launch) (pairAt ws k .capture)) text at text′ next
+pair-put f {w = w} {at} {next} {text} {text′} is put =
+    subst (λ (q : Pair). Put w (f (q .launch) (q .capture)) text at text′ next) (is .same) put
 
 -- ---- the text of the schedule
 
 module _ {ts was now : List ℕ} {r : Scanned} (a : ScanAs false ts was now r) where
   pub text-faulty : (bs : List ℕ) (t : ℕ) {fault line column byte next : ℕ} {text text′ : List ℕ} → r ≡ Faulty fault line column byte
       → Put lineWidth (faultLine fault line column byte) text 0 text′ next
-      → SaidAs linePlaces (checkText bs t ts) text text′ (Trouble next)
-  unfolding scannedLine
+      → SaidAs textPlaces (checkText bs t ts) text text′ (Trouble next)
+  unfolding scannedSaid
   text-faulty bs t {fault} {line} {column} {byte} e put =
       let here : checkText bs t ts ≡ sayTrouble (faultLine fault line column byte) = rw (← a .answer, e) in
       rw here (said-trouble put (omega arith))
 
   module _ {count needs : ℕ} (e : r ≡ Numbers count needs) where
     pub text-numbers : (bs : List ℕ) (t : ℕ) {said : Said} {text text′ : List ℕ}
-        → SaidAs linePlaces (checkedLine (listOf bs) t (take count now)) text text′ said
-        → SaidAs linePlaces (checkText bs t ts) text text′ said
-    unfolding scannedLine
+        → SaidAs textPlaces (checkedSaid (listOf bs) t (take count now)) text text′ said
+        → SaidAs textPlaces (checkText bs t ts) text text′ said
+    unfolding scannedSaid
     text-numbers bs t said =
-        let here : checkText bs t ts ≡ checkedLine (listOf bs) t (take count now) = rw (← a .answer, e, stored-front a e) in
+        let here : checkText bs t ts ≡ checkedSaid (listOf bs) t (take count now) = rw (← a .answer, e, stored-front a e) in
         rw here said

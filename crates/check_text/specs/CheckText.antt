@@ -4,6 +4,7 @@ use Prim.Native.Nat.{ℕ, _+_}
 use mathlib.Core.Bool.{false, _||_, cond}
 use mathlib.Core.List.{List, [], _∷_, _++_}
 use lib.Dec.{ltb, eqb}
+use lib.IntN.{ℤ}
 use lib.ListN.{length}
 use Rattle.refusals.specs.Reply.{told}
 use Rattle.timing.specs.Limits.{maxPeriod}
@@ -40,13 +41,17 @@ registersWidth = 7 + numberWidth + (8 + numberWidth)
 abbrev pub brokenWidth : ℕ
 brokenWidth = 5 + numberWidth + (ruleWidth + registersWidth)
 
--- "smallest margin " with its number, the rule, "pair " with its number, a space, the registers
+-- "smallest margin " with its number, the rule
 abbrev pub marginWidth : ℕ
-marginWidth = 16 + (signedWidth + (ofWidth + (5 + numberWidth + (1 + registersWidth))))
+marginWidth = 16 + (signedWidth + ofWidth)
+
+-- "pair " with its number, a space, the registers
+abbrev pub pairWidth : ℕ
+pairWidth = 5 + numberWidth + (1 + registersWidth)
 
 -- places enough for any text: these two lines are the longest
 abbrev pub textPlaces : ℕ
-textPlaces = brokenWidth + marginWidth
+textPlaces = brokenWidth + (marginWidth + pairWidth)
 
 -- ---- the lines
 
@@ -67,15 +72,24 @@ ofWords Hold = letters " hold of "
 abbrev pub registersWords : ℕ → ℕ → List ℕ
 registersWords launch capture = named (letters "launch ") launch space ++ named (letters "capture ") capture newline
 
--- pair k of the list ws, counted from 0, and the rule that it breaks
-unfoldable pub brokenLine : List ℕ → ℕ → Rule → List ℕ
-brokenLine ws k rule = named (letters "pair ") k space ++ (ruleWords rule ++ registersWords (pairAt ws k .launch) (pairAt ws k .capture))
+-- pair k, counted from 0, the rule that it breaks, and its registers
+abbrev pub brokenWords : ℕ → Rule → ℕ → ℕ → List ℕ
+brokenWords k rule launch capture = named (letters "pair ") k space ++ (ruleWords rule ++ registersWords launch capture)
 
--- the smallest margin, the rule and the pair that have it
+-- a margin and the rule that has it
+abbrev pub marginWords : ℤ → Rule → List ℕ
+marginWords margin rule = letters "smallest margin " ++ (signed margin colon ++ ofWords rule)
+
+-- pair k and its registers
+abbrev pub pairWords : ℕ → ℕ → ℕ → List ℕ
+pairWords k launch capture = named (letters "pair ") k comma ++ (letters " " ++ registersWords launch capture)
+
+-- with the registers of the list ws
+unfoldable pub brokenLine : List ℕ → ℕ → Rule → List ℕ
+brokenLine ws k rule = brokenWords k rule (pairAt ws k .launch) (pairAt ws k .capture)
+
 unfoldable pub marginLine : List ℕ → Smallest → List ℕ
-marginLine ws x =
-    letters "smallest margin " ++ (signed (x .margin) colon ++ (ofWords (x .rule) ++ (named (letters "pair ") (x .pair) comma
-    ++ (letters " " ++ registersWords (pairAt ws (x .pair) .launch) (pairAt ws (x .pair) .capture)))))
+marginLine ws x = marginWords (x .margin) (x .rule) ++ pairWords (x .pair) (pairAt ws (x .pair) .launch) (pairAt ws (x .pair) .capture)
 
 -- the answer for an accepted list; a refusal has a line of its own
 unfoldable pub answerText : List ℕ → Checking → List ℕ

@@ -9,8 +9,8 @@ ghost use Rattle.refusal_text.specs.RefusalText.{lineWidth, causedLine};
 ghost use Rattle.list_format.specs.Lists.{registers, PairIn};
 ghost use Rattle.list_bytes.specs.ListBytes.{listOf};
 ghost use Rattle.checker.specs.declared.Checking.the-variants.{Admissible, Broken};
-ghost use Rattle.check_text.specs.CheckText.{ruleWidth, ofWidth, registersWidth, brokenWidth, marginWidth, textPlaces};
-ghost use Rattle.check_text.specs.CheckText.{ruleWords, ofWords, registersWords, brokenLine, marginLine, answerText};
+ghost use Rattle.check_text.specs.CheckText.{ruleWidth, ofWidth, registersWidth, brokenWidth, marginWidth, pairWidth, textPlaces};
+ghost use Rattle.check_text.specs.CheckText.{ruleWords, ofWords, registersWords, brokenLine, marginWords, pairWords, marginLine, answerText};
 ghost use Rattle.check_text.specs.CheckText.{checkCause, checkedSaid, checkText};
 use checker::Checking;
 use checker::Rule;
@@ -31,7 +31,7 @@ const REGISTERS_WIDTH: usize = 7 + NUMBER_WIDTH + (8 + NUMBER_WIDTH);
 
 const BROKEN_WIDTH: usize = 5 + NUMBER_WIDTH + (14 + REGISTERS_WIDTH);
 
-const MARGIN_WIDTH: usize = 16 + (SIGNED_WIDTH + (10 + (5 + NUMBER_WIDTH + (1 + REGISTERS_WIDTH))));
+const MARGIN_WIDTH: usize = 16 + (SIGNED_WIDTH + 10) + (5 + NUMBER_WIDTH + (1 + REGISTERS_WIDTH));
 
 // Places enough for any text.
 pub const TEXT_PLACES: usize = BROKEN_WIDTH + MARGIN_WIDTH;
@@ -76,19 +76,36 @@ fn put_broken(text: &mut [u8], words: &[u32], k: usize, rule: Rule) -> usize
     put_registers(text, b, p.launch, p.capture)
 }
 
-// The smallest margin, the rule and the pair that have it.
-fn put_margin(text: &mut [u8], at: usize, words: &[u32], x: Smallest) -> usize
-    requires { ⌜ PairIn (now words) (x .pair) ⌝ }
+// The smallest margin and the rule that has it.
+fn put_margin(text: &mut [u8], at: usize, margin: i64, rule: Rule) -> usize
     requires { ⌜ at + marginWidth ≤ length (now text) ⌝ }
-    ensures { λ r. ⌜ Put marginWidth (marginLine (now (words .entry)) x) (now (text .entry)) at (now (text .exit)) r ⌝ }
+    ensures { λ r. ⌜ Put marginWidth (marginWords margin rule) (now (text .entry)) at (now (text .exit)) r ⌝ }
+{
+    let a = put_bytes(text, at, b"smallest margin ");
+    let b = put_signed(text, a, margin, b':');
+    put_of(text, b, rule)
+}
+
+// A pair and its registers.
+fn put_pair(text: &mut [u8], at: usize, k: usize, launch: u32, capture: u32) -> usize
+    requires { ⌜ at + pairWidth ≤ length (now text) ⌝ }
+    ensures { λ r. ⌜ Put pairWidth (pairWords k launch capture) (now (text .entry)) at (now (text .exit)) r ⌝ }
+{
+    let a = put_named(text, at, b"pair ", k as u64, b',');
+    let b = put_bytes(text, a, b" ");
+    put_registers(text, b, launch, capture)
+}
+
+// The smallest margin, and the pair that has it.
+fn put_smallest(text: &mut [u8], at: usize, words: &[u32], x: Smallest) -> usize
+    requires { ⌜ PairIn (now words) (x .pair) ⌝ }
+    requires { ⌜ at + (marginWidth + pairWidth) ≤ length (now text) ⌝ }
+    ensures { λ r. ⌜ Put (marginWidth + pairWidth) (marginLine (now (words .entry)) x) (now (text .entry)) at (now (text .exit)) r ⌝ }
 {
     let p = delay_list::pair_at(words, x.pair);
-    let a = put_bytes(text, at, b"smallest margin ");
-    let b = put_signed(text, a, x.margin, b':');
-    let c = put_of(text, b, x.rule);
-    let d = put_named(text, c, b"pair ", x.pair as u64, b',');
-    let e = put_bytes(text, d, b" ");
-    put_registers(text, e, p.launch, p.capture)
+    let rule = x.rule;
+    let next = put_margin(text, at, x.margin, rule);
+    put_pair(text, next, x.pair, p.launch, p.capture)
 }
 
 // An admissible schedule.
@@ -98,7 +115,7 @@ fn put_admissible(text: &mut [u8], words: &[u32], x: Smallest) -> usize
     ensures { λ r. ⌜ Put textPlaces (answerText (now (words .entry)) (Admissible x)) (now (text .entry)) 0 (now (text .exit)) r ⌝ }
 {
     let a = put_bytes(text, 0, b"admissible\n");
-    put_margin(text, a, words, x)
+    put_smallest(text, a, words, x)
 }
 
 // A schedule of which pair k is the first that breaks a rule.
@@ -109,7 +126,7 @@ fn put_failed(text: &mut [u8], words: &[u32], k: usize, rule: Rule, x: Smallest)
     ensures { λ r. ⌜ Put textPlaces (answerText (now (words .entry)) (Broken k rule x)) (now (text .entry)) 0 (now (text .exit)) r ⌝ }
 {
     let a = put_broken(text, words, k, rule);
-    put_margin(text, a, words, x)
+    put_smallest(text, a, words, x)
 }
 
 // The count of registers of a run of words.
