@@ -8,7 +8,7 @@ use lib.ListN.{length, getD, take, drop}
 use Rattle.refusals.specs.Reply.{Reply, refusal, numbers}
 use Rattle.planner_c.specs.Coded.{valuePlaces, statusOf, counted, placesOf, Coded, AnswerCoded}
 
--- an answer that a status and five places can hold
+-- an answer that a status and nine places can hold
 unfoldable pub Tellable : Reply → Type 0
 Tellable (refusal number place) = 0 < number
 Tellable (numbers xs) = length xs ≤ valuePlaces
@@ -30,7 +30,11 @@ values-from (a ∷ []) h = refl
 values-from (a ∷ b ∷ []) h = refl
 values-from (a ∷ b ∷ c ∷ []) h = refl
 values-from (a ∷ b ∷ c ∷ d ∷ []) h = refl
-values-from (a ∷ b ∷ c ∷ d ∷ e ∷ xs) h = absurd (omega arith)
+values-from (a ∷ b ∷ c ∷ d ∷ e ∷ []) h = refl
+values-from (a ∷ b ∷ c ∷ d ∷ e ∷ f ∷ []) h = refl
+values-from (a ∷ b ∷ c ∷ d ∷ e ∷ f ∷ g ∷ []) h = refl
+values-from (a ∷ b ∷ c ∷ d ∷ e ∷ f ∷ g ∷ i ∷ []) h = refl
+values-from (a ∷ b ∷ c ∷ d ∷ e ∷ f ∷ g ∷ i ∷ j ∷ xs) h = absurd (omega arith)
 
 places-from : (q : Reply) → Tellable q → replyFrom (statusOf q) (placesOf q) ≡ q
 unfolding statusOf placesOf Tellable replyFrom
@@ -53,12 +57,12 @@ answerBy g h (numbers xs) = h xs
 
 -- each answer that a job promises can be told, and answerOf finds it from its numbers
 pub record Telling {A : Type 0} (f : A → Reply) (answerOf : Reply → A) (Promised : A → Type 0) : Type 0 where
-  pub known : (a : A) → answerOf (f a) ≡ a
+  pub known : (a : A) → Promised a → answerOf (f a) ≡ a
   pub tellable : (a : A) → Promised a → Tellable (f a)
 
 module _ {A : Type 0} {f : A → Reply} {answerOf : Reply → A} {Promised : A → Type 0} where
   -- where the record gives the numbers for every input, they can be told
-  pub telling : ((a : A) → answerOf (f a) ≡ a) → {q : Reply} → Tellable q → ((a : A) → Promised a → f a ≡ q) → Telling f answerOf Promised
+  pub telling : ((a : A) → Promised a → answerOf (f a) ≡ a) → {q : Reply} → Tellable q → ((a : A) → Promised a → f a ≡ q) → Telling f answerOf Promised
   telling known h reply = record { known = known; tellable = λ a p. rw (reply a p) h }
 
   module _ (t : Telling f answerOf Promised) {r : ℕ} {reply : List ℕ} (w : AnswerCoded f Promised r reply) where
@@ -67,7 +71,7 @@ module _ {A : Type 0} {f : A → Reply} {answerOf : Reply → A} {Promised : A �
 
     -- the answer is the one that the caller reads
     pub answer-read : answerOf (replyFrom r reply) ≡ w .answer
-    answer-read = ap answerOf (reply-from told-tellable (w .coded)) ∙ t .known (w .answer)
+    answer-read = ap answerOf (reply-from told-tellable (w .coded)) ∙ t .known (w .answer) (w .promised)
 
     -- the job's own record holds of it
     pub promised-read : Promised (answerOf (replyFrom r reply))

@@ -1,9 +1,9 @@
--- Each job's answers can be told: its refusals have numbers above 0, its results at most four values, and the numbers give the answer.
+-- Each job's answers can be told: its refusals have numbers above 0, its results at most eight values, and the numbers give the answer.
 -- So a caller has the job's record of the answer read from status and reply (`promised-read` of `Apart` with a `Telling` from here).
 use Prim.Native.Nat.{ℕ, zero, suc, _+_, _≤_}
 use mathlib.Core.Bool.{Bool, true, false, _&&_, cond}
 use mathlib.Core.List.{List, [], _∷_, _++_}
-use mathlib.Core.Path.{_≡_, refl}
+use mathlib.Core.Path.{_≡_, refl, ap}
 use native.Mathlib.Omega.{arith}
 use lib.Dec.{ltb, eqb}
 use lib.ListN.{length, getD}
@@ -23,10 +23,14 @@ use Rattle.list_format.specs.declared.Reading.{Reading}
 use Rattle.list_format.specs.declared.Reading.the-variants.{Read, Refused as NotRead}
 use Rattle.list_format.specs.declared.Writing.{Writing}
 use Rattle.list_format.specs.declared.Writing.the-variants.{Written, Refused as NotWritten}
-use Rattle.checker.specs.Check.{checking, found, firstBroken, brokenRule, ruleNumber, checkReply, CheckedAs}
+use Rattle.words.specs.Signed.{signedWord, signedOf}
+use Rattle.words.proofs.SignedLaws.{signed-back}
+use Rattle.checker.specs.Check.{checking, answerFor, ruleNumber, smallestNumbers, checkValues, checkReply, reported, IsSmallest, CheckedAs}
+use Rattle.checker.specs.declared.Rule.{Rule}
 use Rattle.checker.specs.declared.Rule.the-variants.{Setup, Hold}
+use Rattle.checker.specs.declared.Smallest.{Smallest}
 use Rattle.checker.specs.declared.Checking.{Checking}
-use Rattle.checker.specs.declared.Checking.the-variants.{Admissible, Broken, Refused as NotChecked}
+use Rattle.checker.specs.declared.Checking.the-variants.{NoPairs, Admissible, Broken, Refused as NotChecked}
 use Rattle.free_schedule.specs.FreeCall.{freeing, freeReply, FreeAs}
 use Rattle.free_schedule.specs.declared.FreeAnswer.{FreeAnswer}
 use Rattle.free_schedule.specs.declared.FreeAnswer.the-variants.{Periods, Refused as NotFreed}
@@ -113,15 +117,16 @@ write-told n xs ys room =
     (each-numbered (givenChecks n xs ys) (λ k. refl) 0 m) refl)))
     (done-told _ _ (omega arith))
 
-few : (b : Bool) (x y : ℕ) → length (cond b (x ∷ y ∷ []) []) ≤ valuePlaces
-few true x y = omega arith
-few false x y = omega arith
+few : (r : Checking) → length (checkValues r) ≤ valuePlaces
+unfolding checkValues smallestNumbers
+few NoPairs = omega arith
+few (Admissible x) = omega arith
+few (Broken k rule x) = omega arith
+few (NotChecked number place) = omega arith
 
 pub check-told : (ws : List ℕ) (t : ℕ) (s : List ℕ) → Tellable (replyOf (checking ws t s))
-unfolding checking found numbered
-check-told ws t s =
-    let k = firstBroken ws t s in
-    list-then ws _ _ refl (done-told _ _ (few (ltb k (pairCount ws)) k (brokenRule ws t s k)))
+unfolding checking numbered
+check-told ws t s = list-then ws _ _ refl (done-told _ _ (few (answerFor ws t s)))
 
 pub free-told : (ws : List ℕ) (room : ℕ) → Tellable (replyOf (freeing ws room))
 unfolding freeing numbered
@@ -148,7 +153,7 @@ readAnswer = answerBy NotRead (λ xs. Read (getD xs 0 0) (getD xs 1 0))
 pub read-telling : {ws was now : List ℕ} → Telling readReply readAnswer (ReadAs ws was now)
 unfolding readReply readAnswer answerBy
 read-telling {ws} {was} =
-    telling (elim [ Read n m ↦ refl | NotRead number place ↦ refl ]) (read-told ws (length was)) (λ a p. p .reply)
+    telling (λ a p. elim a [ Read n m ↦ refl | NotRead number place ↦ refl ]) (read-told ws (length was)) (λ a p. p .reply)
 
 unfoldable pub writeAnswer : Reply → Writing
 writeAnswer = answerBy NotWritten (λ xs. Written (getD xs 0 0))
@@ -156,16 +161,39 @@ writeAnswer = answerBy NotWritten (λ xs. Written (getD xs 0 0))
 pub write-telling : {n : ℕ} {xs ys was now : List ℕ} → Telling writeReply writeAnswer (WrittenAs n xs ys was now)
 unfolding writeReply writeAnswer answerBy
 write-telling {n} {xs} {ys} {was} =
-    telling (elim [ Written count ↦ refl | NotWritten number place ↦ refl ]) (write-told n xs ys (length was)) (λ a p. p .reply)
+    telling (λ a p. elim a [ Written count ↦ refl | NotWritten number place ↦ refl ]) (write-told n xs ys (length was)) (λ a p. p .reply)
+
+unfoldable pub ruleOf : ℕ → Rule
+ruleOf n = cond (eqb n 0) Setup Hold
+
+rule-known : (rule : Rule) → ruleOf (ruleNumber rule) ≡ rule
+unfolding ruleNumber ruleOf
+rule-known Setup = refl
+rule-known Hold = refl
+
+-- the smallest margin from the first three values
+abbrev pub smallestOf : ℕ → ℕ → ℕ → Smallest
+smallestOf w k rule = record { margin = signedOf w; pair = k; rule = ruleOf rule }
+
+-- nothing is lost of a margin that is promised
+smallest-known : {ws : List ℕ} {t : ℕ} {s : List ℕ} (x : Smallest) → IsSmallest ws t s x
+    → smallestOf (signedWord (x .margin)) (x .pair) (ruleNumber (x .rule)) ≡ x
+smallest-known x is = rw (signed-back (x .margin) (omega (arith, is .within)), rule-known (x .rule))
 
 unfoldable pub checkAnswer : Reply → Checking
-checkAnswer = answerBy NotChecked (λ xs. cond (eqb (length xs) 0) Admissible (Broken (getD xs 0 0) (cond (eqb (getD xs 1 0) 0) Setup Hold)))
+checkAnswer = answerBy NotChecked (λ xs.
+    let x : Smallest = smallestOf (getD xs 0 0) (getD xs 1 0) (getD xs 2 0) in
+    cond (eqb (length xs) 0) NoPairs (cond (eqb (length xs) 3) (Admissible x) (Broken (getD xs 3 0) (ruleOf (getD xs 4 0)) x)))
+
+check-known : {ws : List ℕ} {t : ℕ} {s : List ℕ} (a : Checking) → CheckedAs ws t s a → checkAnswer (checkReply a) ≡ a
+unfolding checkReply checkValues smallestNumbers checkAnswer answerBy reported
+check-known NoPairs p = refl
+check-known (Admissible x) p = ap Admissible (smallest-known x (p .margin .0))
+check-known (Broken k rule x) p = rw (smallest-known x (p .margin .0), rule-known rule)
+check-known (NotChecked number place) p = refl
 
 pub check-telling : {ws : List ℕ} {t : ℕ} {s : List ℕ} → Telling checkReply checkAnswer (CheckedAs ws t s)
-unfolding checkReply checkAnswer answerBy ruleNumber
-check-telling {ws} {t} {s} =
-    telling (elim [ Admissible ↦ refl | Broken k rule ↦ elim rule [ Setup ↦ refl | Hold ↦ refl ] | NotChecked number place ↦ refl ])
-    (check-told ws t s) (λ a p. p .reply)
+check-telling {ws} {t} {s} = telling check-known (check-told ws t s) (λ a p. p .reply)
 
 unfoldable pub freeAnswer : Reply → FreeAnswer
 freeAnswer = answerBy NotFreed (λ xs. Periods (getD xs 0 0) (getD xs 1 0))
@@ -173,7 +201,7 @@ freeAnswer = answerBy NotFreed (λ xs. Periods (getD xs 0 0) (getD xs 1 0))
 pub free-telling : {ws was now : List ℕ} → Telling freeReply freeAnswer (FreeAs ws was now)
 unfolding freeReply freeAnswer answerBy
 free-telling {ws} {was} =
-    telling (elim [ Periods common free ↦ refl | NotFreed number place ↦ refl ]) (free-told ws (length was)) (λ a p. p .reply)
+    telling (λ a p. elim a [ Periods common free ↦ refl | NotFreed number place ↦ refl ]) (free-told ws (length was)) (λ a p. p .reply)
 
 unfoldable pub splitAnswer : Reply → Splitting
 splitAnswer = answerBy NotSplit (λ xs. cond (eqb (getD xs 0 0) 0) NoSplit Split)
@@ -182,7 +210,7 @@ pub split-telling : {ws : List ℕ} {period offset : ℕ} {answer answer′ scra
     → Telling splitReply splitAnswer (SplitAs ws period offset answer answer′ scratch scratch′)
 unfolding splitReply splitAnswer answerBy
 split-telling {ws} {period} {offset} {answer} {scratch = scratch} =
-    telling (elim [ Split ↦ refl | NoSplit ↦ refl | NotSplit number place ↦ refl ])
+    telling (λ a p. elim a [ Split ↦ refl | NoSplit ↦ refl | NotSplit number place ↦ refl ])
     (split-told ws period offset (length answer) (length scratch)) (λ a p. p .reply)
 
 unfoldable pub planAnswer : Reply → Planning
@@ -191,7 +219,7 @@ planAnswer = answerBy NotPlanned (λ xs. Planned (getD xs 0 0) (getD xs 1 0) (ge
 pub plan-telling : {ws answer answer′ scratch scratch′ : List ℕ} → Telling planReply planAnswer (PlanAs ws answer answer′ scratch scratch′)
 unfolding planReply planAnswer answerBy
 plan-telling {ws} {answer} {scratch = scratch} =
-    telling (elim [ Planned common free two offset ↦ refl | NotPlanned number place ↦ refl ])
+    telling (λ a p. elim a [ Planned common free two offset ↦ refl | NotPlanned number place ↦ refl ])
     (plan-told ws (length answer) (length scratch)) (λ a p. p .reply)
 
 -- ---- for one, what a caller of the plan has
@@ -204,7 +232,16 @@ module _ {ws answer answer′ scratch scratch′ : List ℕ} where
 
   -- who is told a result of four values has the job's record of these
   pub plan-read : {common free two offset : ℕ}
-      → AnswerCoded planReply (PlanAs ws answer answer′ scratch scratch′) resultStatus (valuePlaces ∷ common ∷ free ∷ two ∷ offset ∷ [])
+      → AnswerCoded planReply (PlanAs ws answer answer′ scratch scratch′) resultStatus
+      (4 ∷ common ∷ free ∷ two ∷ offset ∷ 0 ∷ 0 ∷ 0 ∷ 0 ∷ [])
       → PlanAs ws answer answer′ scratch scratch′ (Planned common free two offset)
   unfolding replyFrom planAnswer answerBy
   plan-read w = promised-read plan-telling w
+
+-- ---- and of a check: a margin with its sign
+
+module _ {ws : List ℕ} {t : ℕ} {s : List ℕ} where
+  pub check-read : {w k rule : ℕ} → AnswerCoded checkReply (CheckedAs ws t s) resultStatus (3 ∷ w ∷ k ∷ rule ∷ 0 ∷ 0 ∷ 0 ∷ 0 ∷ 0 ∷ [])
+      → CheckedAs ws t s (Admissible (smallestOf w k rule))
+  unfolding replyFrom checkAnswer answerBy
+  check-read w = promised-read check-telling w

@@ -1,4 +1,4 @@
--- An answer as plain numbers: a status, and five places of a reply; and what a caller who is told it may rely on.
+-- An answer as plain numbers: a status, and nine places of a reply; and what a caller who is told it may rely on.
 use Prim.Native.Nat.{ℕ}
 use mathlib.Core.List.{List, [], _∷_}
 use mathlib.Core.Path.{_≡_}
@@ -16,13 +16,14 @@ statusOf (numbers xs) = resultStatus
 
 -- the values that a reply has room for
 abbrev pub valuePlaces : ℕ
-valuePlaces = 4
+valuePlaces = 8
 
--- how many values there are, and up to four of them; zeros follow
+-- how many values there are, and up to eight of them; zeros follow
 abbrev pub counted : List ℕ → List ℕ
-counted xs = length xs ∷ getD xs 0 0 ∷ getD xs 1 0 ∷ getD xs 2 0 ∷ getD xs 3 0 ∷ []
+counted xs =
+    length xs ∷ getD xs 0 0 ∷ getD xs 1 0 ∷ getD xs 2 0 ∷ getD xs 3 0 ∷ getD xs 4 0 ∷ getD xs 5 0 ∷ getD xs 6 0 ∷ getD xs 7 0 ∷ []
 
--- the five places: a refusal's one value is its place
+-- the nine places: a refusal's one value is its place
 unfoldable pub placesOf : Reply → List ℕ
 placesOf (refusal number place) = counted (place ∷ [])
 placesOf (numbers xs) = counted xs

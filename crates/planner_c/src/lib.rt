@@ -1,4 +1,4 @@
-// The five jobs for C and Rust: plain numbers, slices as pointer and length, and a reply of five places.
+// The five jobs for C and Rust: plain numbers, slices as pointer and length, and a reply of nine places.
 // Each contract is the job's own record, of the answer that status and reply tell (`specs/Coded.antt`).
 // `proofs/Apart.antt` proves that no two answers of a job are told alike, so that the record holds of what the caller reads.
 ghost use mathlib.Core.Path.{_≡_};
@@ -7,22 +7,24 @@ ghost use Rattle.list_format.specs.Read.{readReply};
 ghost use Rattle.list_format.specs.Write.{writeReply};
 ghost use Rattle.list_format.specs.RoundTrip.{ReadAs, WrittenAs};
 ghost use Rattle.checker.specs.Check.{checkReply, ruleNumber, CheckedAs};
+ghost use Rattle.checker.specs.declared.Checking.the-variants.{Admissible, Broken};
 ghost use Rattle.free_schedule.specs.FreeCall.{freeReply, FreeAs};
 ghost use Rattle.split.specs.Splitting.{splitReply, SplitAs};
 ghost use Rattle.planner.specs.PlanCall.{planReply, PlanAs};
 ghost use Rattle.text_pieces.specs.Pieces.{Put};
 ghost use Rattle.report.specs.Report.{textPlaces, report};
-ghost use Rattle.planner_c.specs.Coded.{resultStatus, AnswerCoded};
+ghost use Rattle.planner_c.specs.Coded.{resultStatus, placesOf, AnswerCoded};
 use checker::Checking;
 use checker::Rule;
+use checker::Smallest;
 use free_schedule::FreeAnswer;
 use list_format::Reading;
 use list_format::Writing;
 use planner::Planning;
 use split::Splitting;
 
-// A count of values, then four of them.
-const REPLY_PLACES: usize = 5;
+// A count of values, then eight of them.
+const REPLY_PLACES: usize = 9;
 
 // The status of a result; a refusal's is its number.
 const RESULT: u32 = 0;
@@ -37,21 +39,21 @@ const NO_SPLIT: u64 = 0;
 
 const SPLIT: u64 = 1;
 
-// The reply of a result: how many values, and four places for them. The status of a result is returned.
-fn tell(reply: &mut [u64; REPLY_PLACES], count: u64, a: u64, b: u64, c: u64, d: u64) -> u32
+// The reply of a result: how many values, and the first five of them; no job has more. The status of a result is returned.
+fn tell(reply: &mut [u64; REPLY_PLACES], count: u64, a: u64, b: u64, c: u64, d: u64, e: u64) -> u32
     ensures status { λ r. ⌜ r ≡ resultStatus ⌝ }
-    ensures places { λ _. ⌜ now (reply .exit) ≡ count ∷ a ∷ b ∷ c ∷ d ∷ [] ⌝ }
+    ensures places { λ _. ⌜ now (reply .exit) ≡ count ∷ a ∷ b ∷ c ∷ d ∷ e ∷ 0 ∷ 0 ∷ 0 ∷ [] ⌝ }
 {
-    *reply = [count, a, b, c, d];
+    *reply = [count, a, b, c, d, e, 0, 0, 0];
     RESULT
 }
 
 // The reply of a refusal: its place. The refusal's number is returned.
 fn refuse(reply: &mut [u64; REPLY_PLACES], number: u32, place: usize) -> u32
     ensures status { λ r. ⌜ r ≡ number ⌝ }
-    ensures places { λ _. ⌜ now (reply .exit) ≡ 1 ∷ place ∷ 0 ∷ 0 ∷ 0 ∷ [] ⌝ }
+    ensures places { λ _. ⌜ now (reply .exit) ≡ 1 ∷ place ∷ 0 ∷ 0 ∷ 0 ∷ 0 ∷ 0 ∷ 0 ∷ 0 ∷ [] ⌝ }
 {
-    tell(reply, 1, place as u64, 0, 0, 0);
+    tell(reply, 1, place as u64, 0, 0, 0, 0);
     number
 }
 
@@ -77,7 +79,7 @@ pub extern "C" fn darnerflax_read(
 {
     match read_list::read(words, answer) {
         Reading::Refused(number, place) => refuse(reply, number, place),
-        Reading::Read(n, m) => tell(reply, 2, n as u64, m as u64, 0, 0),
+        Reading::Read(n, m) => tell(reply, 2, n as u64, m as u64, 0, 0, 0),
     }
 }
 
@@ -96,11 +98,41 @@ pub extern "C" fn darnerflax_write(
 {
     match write_list::write(n, numbers, needs, answer) {
         Writing::Refused(number, place) => refuse(reply, number, place),
-        Writing::Written(count) => tell(reply, 1, count as u64, 0, 0, 0),
+        Writing::Written(count) => tell(reply, 1, count as u64, 0, 0, 0, 0),
     }
 }
 
-// Checks a schedule at a period. Reply: no value if it is admissible; else the first pair that breaks a rule, and the rule: 0 setup, 1 hold.
+// The reply of an admissible schedule: the smallest margin, the first pair that has it, and its rule.
+fn tell_admissible(reply: &mut [u64; REPLY_PLACES], x: Smallest) -> u32
+    ensures status { λ r. ⌜ r ≡ resultStatus ⌝ }
+    ensures places { λ _. ⌜ now (reply .exit) ≡ placesOf (checkReply (Admissible x)) ⌝ }
+{
+    let margin = words::signed_word(x.margin);
+    let rule = x.rule;
+    tell(reply, 3, margin, x.pair as u64, rule_number(rule), 0, 0)
+}
+
+// And of any other: pair k and the rule that it breaks besides.
+fn tell_broken(reply: &mut [u64; REPLY_PLACES], k: usize, broken: Rule, x: Smallest) -> u32
+    ensures status { λ r. ⌜ r ≡ resultStatus ⌝ }
+    ensures places { λ _. ⌜ now (reply .exit) ≡ placesOf (checkReply (Broken k broken x)) ⌝ }
+{
+    let margin = words::signed_word(x.margin);
+    let rule = x.rule;
+    tell(
+        reply,
+        5,
+        margin,
+        x.pair as u64,
+        rule_number(rule),
+        k as u64,
+        rule_number(broken),
+    )
+}
+
+// Checks a schedule at a period. Reply: the smallest margin of all, a number with sign in two's complement, the first pair that has it, and
+// its rule: 0 setup, 1 hold; if the schedule is not admissible, the first pair that breaks a rule and the rule besides. No value for a list
+// without pairs.
 #[no_mangle]
 pub extern "C" fn darnerflax_check(
     words: &[u32],
@@ -112,8 +144,9 @@ pub extern "C" fn darnerflax_check(
 {
     match checker::check(words, period, timings) {
         Checking::Refused(number, place) => refuse(reply, number, place),
-        Checking::Admissible => tell(reply, 0, 0, 0, 0, 0),
-        Checking::Broken(k, rule) => tell(reply, 2, k as u64, rule_number(rule), 0, 0),
+        Checking::NoPairs => tell(reply, 0, 0, 0, 0, 0, 0),
+        Checking::Admissible(x) => tell_admissible(reply, x),
+        Checking::Broken(k, rule, x) => tell_broken(reply, k, rule, x),
     }
 }
 
@@ -128,7 +161,7 @@ pub extern "C" fn darnerflax_free(
 {
     match free_schedule::free(words, answer) {
         FreeAnswer::Refused(number, place) => refuse(reply, number, place),
-        FreeAnswer::Periods(common, free) => tell(reply, 2, common as u64, free as u64, 0, 0),
+        FreeAnswer::Periods(common, free) => tell(reply, 2, common as u64, free as u64, 0, 0, 0),
     }
 }
 
@@ -148,8 +181,8 @@ pub extern "C" fn darnerflax_split(
 {
     match split::split(words, period, offset, answer, scratch) {
         Splitting::Refused(number, place) => refuse(reply, number, place),
-        Splitting::Split => tell(reply, 1, SPLIT, 0, 0, 0),
-        Splitting::NoSplit => tell(reply, 1, NO_SPLIT, 0, 0, 0),
+        Splitting::Split => tell(reply, 1, SPLIT, 0, 0, 0, 0),
+        Splitting::NoSplit => tell(reply, 1, NO_SPLIT, 0, 0, 0, 0),
     }
 }
 
@@ -175,6 +208,7 @@ pub extern "C" fn darnerflax_plan(
             free as u64,
             two as u64,
             offset as u64,
+            0,
         ),
     }
 }
