@@ -44,7 +44,7 @@
 extern "C" {
 #endif
 
-#define DARNERFLAX_REPLY 5
+#define DARNERFLAX_REPLY 9
 #define DARNERFLAX_MAX_REGISTERS 512
 #define DARNERFLAX_MAX_PAIRS 2048
 /* the largest hold or setup of a register */

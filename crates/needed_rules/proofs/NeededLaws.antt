@@ -2,20 +2,25 @@
 -- The jobs' pair has the setup added to its greatest delay and the hold taken from its least, above which no hold of an accepted list is.
 use mathlib.Core.Bool.{Bool}
 use mathlib.Core.List.{List, [], _∷_}
-use mathlib.Core.Path.{_≡_, sym, _∙_, ap}
+use mathlib.Core.Path.{_≡_, refl, sym, _∙_, ap}
 use Prim.Native.Nat.{ℕ, _+_, _-_, _*_, _≤_, _<_}
 use native.Mathlib.Nat.{add-mul, le-trans}
 use native.Mathlib.Omega.{arith}
+use lib.IntN.{subℕ}
 use Rattle.timing.specs.declared.Pair.{Pair}
 use Rattle.timing.specs.Rules.{time, Each, Met, Admissible}
 use Rattle.timing.proofs.EachLaws.{each-map}
+use Rattle.timing.proofs.MarginLaws.{both-more}
 use Rattle.list_format.specs.Lists.{pairCount, holdAt, writtenAt, pairAt, pairs, IsAccepted}
 use Rattle.list_format.proofs.ListLaws.{accepted-in, each-pair, pair-holds}
+use Rattle.checker.specs.Check.{marginAt}
+use Rattle.checker.specs.declared.Rule.{Rule}
+use Rattle.checker.specs.declared.Rule.the-variants.{Setup, Hold}
 use Rattle.free_laws.specs.Free.{common}
 use Rattle.free_laws.specs.Rival.{Frac, fracAt, MeetsFrac, RivalAdmissible}
 use Rattle.free_laws.proofs.FreeLaws.{common-limit}
 use Rattle.plan_laws.specs.Unbeaten.{MeetsOver, WorksOver}
-use Rattle.needed_rules.specs.NeededRules.{Iff, EachPair, longest, NeededMet, NeededFrac, NeededOver}
+use Rattle.needed_rules.specs.NeededRules.{Iff, EachPair, longest, NeededMet, neededMargin, NeededFrac, NeededOver}
 
 -- what is taken from one side stands on the other, in parts of a whole
 parted : (l h u : ℕ) → h ≤ l → (l - h) * u + h * u ≡ l * u
@@ -49,6 +54,17 @@ module _ (ws : List ℕ) (a : IsAccepted ws) where
         to = λ m. record { setup = m .setup; hold = omega (arith, m .hold, holds k h) };
         from = λ m. record { setup = m .setup; hold = omega (arith, m .hold, holds k h) };
       })
+
+  -- the margins that a check reports
+  pub margin-needed : (t : ℕ) (s : List ℕ) (k : ℕ) → k < pairCount ws → (rule : Rule) → marginAt ws t s k rule ≡ neededMargin ws k t s rule
+  unfolding pairAt marginAt neededMargin
+  margin-needed t s k h Setup = refl
+  margin-needed t s k h Hold =
+      let p = writtenAt ws k in
+      let hold = holdAt ws (p .capture) in
+      let whole : time s (p .launch) + (p .least - hold) + hold ≡ time s (p .launch) + p .least = omega (arith, holds k h) in
+      sym (both-more (time s (p .launch) + (p .least - hold)) (time s (p .capture)) hold)
+      ∙ ap (λ z. subℕ z (time s (p .capture) + hold)) whole
 
   -- rival schedules
   pub rival-needed : (t : ℕ) (s : List Frac) → Iff (RivalAdmissible t (pairs ws) s) (EachPair ws (λ k. NeededFrac ws k t s))

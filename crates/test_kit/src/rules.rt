@@ -45,6 +45,65 @@ fn hold(numbers: &[u32], needs: &[u32], k: usize, s: &[u32]) -> bool {
     (b as u64) + (hold_of(needs, capture) as u64) <= (a as u64) + (least as u64)
 }
 
+// A margin, as a word of 64 bits that wraps below 0, and its place: the pair twice over, and one more for hold.
+pub struct Margin {
+    pub word: u64,
+    pub place: usize,
+}
+
+// Words from here on are below 0.
+const BELOW: u64 = 0x8000_0000_0000_0000;
+
+fn lower(a: u64, b: u64) -> bool {
+    std::num::wrapping_add_u64(a, BELOW) < std::num::wrapping_add_u64(b, BELOW)
+}
+
+fn setup_margin(numbers: &[u32], needs: &[u32], k: usize, period: u32, s: &[u32]) -> u64 {
+    let capture = number(numbers, k, 1);
+    let greatest = number(numbers, k, 3);
+    let a = at(s, number(numbers, k, 0) as usize);
+    let b = at(s, capture as usize);
+    std::num::wrapping_sub_u64(
+        (b as u64) + (period as u64),
+        (a as u64) + (greatest as u64) + (setup_of(needs, capture) as u64),
+    )
+}
+
+fn hold_margin(numbers: &[u32], needs: &[u32], k: usize, s: &[u32]) -> u64 {
+    let capture = number(numbers, k, 1);
+    let least = number(numbers, k, 2);
+    let a = at(s, number(numbers, k, 0) as usize);
+    let b = at(s, capture as usize);
+    std::num::wrapping_sub_u64(
+        (a as u64) + (least as u64),
+        (b as u64) + (hold_of(needs, capture) as u64),
+    )
+}
+
+fn lowest(m: Margin, word: u64, place: usize) -> Margin {
+    if lower(word, m.word) {
+        return Margin { word, place };
+    }
+    m
+}
+
+// The smallest margin of all, the first of those that are the same; the largest there is if there are no pairs.
+pub fn smallest(numbers: &[u32], needs: &[u32], m: usize, period: u32, s: &[u32]) -> Margin
+    requires { ⌜ m ≤ maxPairs ⌝ }
+{
+    let mut low = Margin {
+        word: BELOW - 1,
+        place: 0,
+    };
+    let mut k = 0;
+    while k < m {
+        low = lowest(low, setup_margin(numbers, needs, k, period, s), 2 * k);
+        low = lowest(low, hold_margin(numbers, needs, k, s), 2 * k + 1);
+        k += 1;
+    }
+    low
+}
+
 // The first pair that breaks a rule, twice over, and one more if only hold is broken; twice m if there is none.
 pub fn broken(numbers: &[u32], needs: &[u32], m: usize, period: u32, s: &[u32]) -> usize
     requires { ⌜ m ≤ maxPairs ⌝ }

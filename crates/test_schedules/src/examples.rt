@@ -1,6 +1,7 @@
 // Worked examples.
 use checker::Checking;
 use checker::Rule;
+use checker::Smallest;
 use free_schedule::FreeAnswer;
 use test_kit::lists::list;
 use test_kit::lists::needy;
@@ -21,9 +22,16 @@ pub fn show_free(r: FreeAnswer) {
 
 fn show_check(r: Checking) {
     match r {
-        Checking::Admissible => show::text(b"admissible\n"),
+        Checking::NoPairs => show::text(b"no pairs\n"),
+        Checking::Admissible(x) => {
+            show::text(b"admissible, ");
+            show_smallest(x);
+        }
         Checking::Refused(code, place) => show::refusal(code, place),
-        Checking::Broken(pair, rule) => show_broken(pair, rule),
+        Checking::Broken(pair, rule, x) => {
+            show_broken(pair, rule);
+            show_smallest(x);
+        }
     }
 }
 
@@ -31,9 +39,24 @@ fn show_broken(pair: usize, rule: Rule) {
     show::text(b"pair ");
     show::number(pair as u64);
     match rule {
-        Rule::Setup => show::text(b" breaks setup\n"),
-        Rule::Hold => show::text(b" breaks hold\n"),
+        Rule::Setup => show::text(b" breaks setup, "),
+        Rule::Hold => show::text(b" breaks hold, "),
     }
+}
+
+// The smallest margin, and the rule and the pair that have it.
+fn show_smallest(x: Smallest) {
+    let rule = x.rule;
+    if x.margin < 0 {
+        show::text(b"-");
+    }
+    show::number(words::magnitude(x.margin));
+    match rule {
+        Rule::Setup => show::text(b" at setup of pair "),
+        Rule::Hold => show::text(b" at hold of pair "),
+    }
+    show::number(x.pair as u64);
+    show::text(b"\n");
 }
 
 // The free schedule of a list, in five places that held 9.
@@ -130,6 +153,55 @@ pub fn checks() {
     check(b"P at 7, 3 10: ", 2, &p, 7, &[3u32, 10]);
     check(b"0-1 7/10 at 9, 0 8: ", 2, &[0u32, 1, 7, 10], 9, &[0u32, 8]);
     check(b"0-0 0/5 at 4, 0: ", 1, &[0u32, 0, 0, 5], 4, &[0u32]);
+}
+
+// The smallest margin: of one rule, of two that are the same in a pair or in two pairs, of none.
+pub fn margins() {
+    let p = [0u32, 1, 7, 10, 1, 0, 1, 3];
+    check(b"P at 10, 0 3: ", 2, &p, 10, &[0u32, 3]);
+    check(
+        b"setup and hold the same: ",
+        2,
+        &[0u32, 1, 5, 10],
+        12,
+        &[2u32, 4],
+    );
+    check(
+        b"two pairs the same: ",
+        2,
+        &[0u32, 1, 9, 10, 1, 0, 9, 10],
+        12,
+        &[4u32, 4],
+    );
+    check(
+        b"hold of pair 0 and setup of pair 1: ",
+        2,
+        &[0u32, 1, 2, 3, 1, 0, 9, 10],
+        12,
+        &[4u32, 4],
+    );
+    check(
+        b"pair 0 broken, pair 1 by more: ",
+        2,
+        &[0u32, 1, 9, 10, 1, 0, 9, 20],
+        9,
+        &[4u32, 4],
+    );
+    check(b"a list without pairs: ", 2, &[], 5, &[4u32, 4]);
+    check(
+        b"the largest: ",
+        2,
+        &[0u32, 1, 0, 0],
+        1_009_999,
+        &[0u32, 516_109_489],
+    );
+    check(
+        b"the smallest: ",
+        2,
+        &[0u32, 1, 0, 1_000_000],
+        1,
+        &[516_109_489u32, 0],
+    );
 }
 
 pub fn refusals() {

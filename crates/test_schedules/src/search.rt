@@ -2,11 +2,13 @@
 use crate::plain;
 use checker::Checking;
 use checker::Rule;
+use checker::Smallest;
 use free_schedule::FreeAnswer;
 use test_kit::lists::needy;
 use test_kit::places::front;
 use test_kit::random;
 use test_kit::rules;
+use test_kit::rules::Margin;
 use test_kit::show;
 use test_kit::tally::Tally;
 use test_kit::tally::Turn;
@@ -31,7 +33,7 @@ const LATEST_CHECKED: u32 = 4;
 const SCHEDULES: u32 = 1_000;
 
 // A number that the plain rules never give.
-const REFUSED: usize = 1_000_000;
+const OTHER: usize = 1_000_000;
 
 // Whether the search finds no schedule at a period.
 fn none(numbers: &[u32], needs: &[u32], n: usize, m: usize, period: u32) -> bool
@@ -73,16 +75,32 @@ fn free_right(numbers: &[u32], needs: &[u32], n: usize, m: usize, words: &[u32])
     plain::searched(numbers, needs, n, m, free, LATEST, &answer, &mut s)
 }
 
-// What a check says, as the plain search numbers it.
-fn checked(words: &[u32], m: usize, period: u32, s: &[u32]) -> usize
+// The place of a rule as the plain rules number it.
+fn place(k: usize, rule: Rule) -> usize {
+    match rule {
+        Rule::Setup => 2 * (k % MAX_PAIRS),
+        Rule::Hold => 2 * (k % MAX_PAIRS) + 1,
+    }
+}
+
+// Whether a margin that is reported is the one that the plain rules give.
+fn same(x: Smallest, plain: Margin) -> bool {
+    let rule = x.rule;
+    words::signed_word(x.margin) == plain.word && place(x.pair, rule) == plain.place
+}
+
+// What a check says, as the plain rules number it; a number of its own if the smallest margin is not theirs.
+fn checked(list: &[u32], m: usize, period: u32, s: &[u32], plain: Margin) -> usize
     requires { ⌜ m ≤ maxPairs ⌝ }
 {
-    match checker::check(words, period, s) {
-        Checking::Admissible => 2 * m,
-        Checking::Refused(_, _) => REFUSED,
-        Checking::Broken(k, rule) => match rule {
-            Rule::Setup => 2 * (k % MAX_PAIRS),
-            Rule::Hold => 2 * (k % MAX_PAIRS) + 1,
+    match checker::check(list, period, s) {
+        Checking::NoPairs => if m == 0 { 0 } else { OTHER },
+        Checking::Admissible(x) => if same(x, plain) { 2 * m } else { OTHER },
+        Checking::Refused(_, _) => OTHER,
+        Checking::Broken(k, rule, x) => if same(x, plain) {
+            place(k, rule)
+        } else {
+            OTHER
         },
     }
 }
@@ -100,7 +118,9 @@ fn check_right(
 {
     let mut left: u32 = SCHEDULES;
     while left > 0 {
-        if checked(words, m, PERIOD, front(s, n)) != rules::broken(numbers, needs, m, PERIOD, s) {
+        let low = rules::smallest(numbers, needs, m, PERIOD, s);
+        let said = checked(words, m, PERIOD, front(s, n), low);
+        if said != rules::broken(numbers, needs, m, PERIOD, s) {
             return 2;
         }
         if !rules::advance(s, n, LATEST_CHECKED) {
@@ -180,7 +200,7 @@ pub fn free_schedules() {
 
 pub fn checks() {
     tell(
-        b"checks of random lists against the rules: ",
+        b"checks of random lists and their margins against the rules: ",
         lists(0, true),
     );
     tell(b"the same with needs: ", lists(NEED, true));

@@ -1,7 +1,7 @@
 -- The difference of two natural numbers, with its sign: not negative exactly where the second is at most the first; how large it is.
 use mathlib.Core.Bool.{Bool, true, false, not}
 use mathlib.Core.Logic.{_⊎_, inl, inr, ⊎-elim}
-use mathlib.Core.Path.{_≡_, refl, sym, _∙_}
+use mathlib.Core.Path.{_≡_, refl, sym, ap, _∙_}
 use Prim.Native.Nat.{ℕ, zero, suc, _+_, _-_, _^_, _<_, _≤_, zero-le}
 use native.Mathlib.Nat.{add-zero, sub-zero}
 use native.Mathlib.Omega.{arith}
@@ -49,6 +49,20 @@ at-least-nought (negsuc n) = refl
 pub below-nought : (z : ℤ) → ltZ z (pos 0) ≡ not (nonNeg z)
 below-nought (pos n) = le-ltb n 0 zero-le
 below-nought (negsuc n) = refl
+
+-- the same on both sides changes nothing
+pub both-more : (a b c : ℕ) → subℕ (a + c) (b + c) ≡ subℕ a b
+both-more a b c = go (lt-or-le a b)
+  where
+    go : (a < b) ⊎ (b ≤ a) → subℕ (a + c) (b + c) ≡ subℕ a b
+    go (inl h) =
+        let more : a + c < b + c = omega arith in
+        let same : b + c - suc (a + c) ≡ b - suc a = omega arith in
+        rw (below a b h, below (a + c) (b + c) more) (ap negsuc same)
+    go (inr h) =
+        let more : b + c ≤ a + c = omega arith in
+        let same : a + c - (b + c) ≡ a - b = omega arith in
+        rw (above a b h, above (a + c) (b + c) more) (ap pos same)
 
 -- ---- the size
 
