@@ -14,7 +14,7 @@ use Rattle.timing.proofs.RuleLaws.{and-true}
 use Rattle.timing.proofs.MarginLaws.{lt-or-le, at-least-nought, below-nought}
 use Rattle.search.specs.Lowest.{lowest}
 use Rattle.search.proofs.SearchLaws.{least-is}
-use Rattle.search.proofs.LowestLaws.{IsLowest, lowest-is, lowest-one, lowest-lower, lowest-kept, lower→le, lower-true, lower-false, le-lower, le-trans}
+use Rattle.search.proofs.LowestLaws.{IsLowest, lowest-is, lowest-one, lowest-lower, lowest-kept, lower→le, lower-true, lower-false, le-trans, at-most-is}
 use Rattle.list_format.specs.Lists.{pairCount, pairAt, IsPair}
 use Rattle.checker.specs.Check.{marginAt, lowRule, lowAt, smallestAt, smallest, metAt, firstBroken, brokenRule, ruleNumber, marginPlace}
 use Rattle.checker.specs.Check.{walkedOn, Walked}
@@ -113,6 +113,26 @@ module _ (t : ℕ) (s : List ℕ) {ws : List ℕ} {k : ℕ} {p : Pair} (is : IsP
     pub hold-not-lower : ltZ y x ≡ false → record { margin = x; pair = k; rule = Setup } ≡ smallestAt ws t s k
     unfolding lowRule
     hold-not-lower e = rw (← setup-same, ← hold-same, e, ← setup-same)
+
+-- ---- a walk with one pair more
+
+module _ (w : Walk) (x : Smallest) where
+  lower : leZ (w .smallest .margin) (x .margin) ≡ false → ltZ (x .margin) (w .smallest .margin) ≡ true
+  lower e = not-false _ (sym (at-most-is (x .margin) (w .smallest .margin)) ∙ e)
+
+  pub walk-kept : leZ (w .smallest .margin) (x .margin) ≡ true → w ≡ walkedOn w x
+  unfolding walkedOn
+  walk-kept e = rw (not-true (ltZ (x .margin) (w .smallest .margin)) (sym (at-most-is (x .margin) (w .smallest .margin)) ∙ e))
+
+  pub walk-lower : leZ (w .smallest .margin) (x .margin) ≡ false → ltZ (w .smallest .margin) (pos 0) ≡ true
+      → record { smallest = x; broken = w .broken } ≡ walkedOn w x
+  unfolding walkedOn
+  walk-lower e n = rw (lower e, not-true (nonNeg (w .smallest .margin)) (sym (below-nought (w .smallest .margin)) ∙ n))
+
+  pub walk-first : leZ (w .smallest .margin) (x .margin) ≡ false → ltZ (w .smallest .margin) (pos 0) ≡ false
+      → record { smallest = x; broken = x .pair } ≡ walkedOn w x
+  unfolding walkedOn
+  walk-first e n = rw (lower e, not-false (nonNeg (w .smallest .margin)) (sym (below-nought (w .smallest .margin)) ∙ n))
 
 -- ---- pair after pair
 

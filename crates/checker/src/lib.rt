@@ -102,19 +102,16 @@ fn smaller_margin(words: &[u32], k: usize, period: u32, timings: &[u32]) -> Smal
 fn walked_on(walk: Walk, x: Smallest) -> Walk
     ensures { λ r. ⌜ r ≡ walkedOn walk x ⌝ }
 {
-    if x.margin < walk.smallest.margin {
-        if walk.smallest.margin >= 0 {
-            return Walk {
-                smallest: x,
-                broken: x.pair,
-            };
-        }
-        return Walk {
-            smallest: x,
-            broken: walk.broken,
-        };
+    if x.margin >= walk.smallest.margin {
+        return walk;
     }
-    walk
+    let mut next = walk;
+    next.smallest = x;
+    if walk.smallest.margin < 0 {
+        return next;
+    }
+    next.broken = x.pair;
+    next
 }
 
 // The walk over all pairs.

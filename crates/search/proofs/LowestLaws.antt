@@ -1,11 +1,12 @@
 -- `lowest` gives a place at which no number is lower, and before which each is higher.
-use mathlib.Core.Bool.{Bool, true, false, cond}
+use mathlib.Core.Bool.{Bool, true, false, not, cond}
 use mathlib.Core.Logic.{_⊎_, inl, inr}
 use mathlib.Core.Path.{_≡_, refl, sym, ap}
 use Prim.Native.Nat.{ℕ, zero, suc, _+_, _≤_, _<_, zero-le}
 use native.Mathlib.Nat.{eq-or-lt-of-le}
 use native.Mathlib.Numerals.{add-one}
 use native.Mathlib.Omega.{arith}
+use borrow.Author.Tests.{le-leb, lt-leb, ltb-true, ltb-false}
 use lib.Dec.{T, leb, ltb, leb→le, le→leb, ltb→lt, lt→ltb}
 use lib.IntN.{ℤ, pos, negsuc}
 use lib.Signed.{leZ, ltZ, _≤ℤ_, _<ℤ_, ≤ℤ-refl, ltZ-yes, ltZ-no, <ℤ-≤ℤ-trans}
@@ -34,6 +35,20 @@ le-le (pos a) (negsuc b) c h k = absurd h
 le-le (negsuc a) b (pos c) h k = tt
 le-le (negsuc a) (pos b) (negsuc c) h k = absurd k
 le-le (negsuc a) (negsuc b) (negsuc c) h k = let l = leb→le b a h in let m = leb→le c b k in le→leb c a (omega arith)
+
+le-not-lt : (a b : ℕ) → leb b a ≡ not (ltb a b)
+le-not-lt a b = go (ltb a b) refl
+  where
+    go : (t : Bool) → ltb a b ≡ t → leb b a ≡ not t
+    go true e = lt-leb b a (ltb-true a b e)
+    go false e = le-leb b a (ltb-false a b e)
+
+-- one test says what the other denies
+pub at-most-is : (a b : ℤ) → leZ b a ≡ not (ltZ a b)
+at-most-is (pos a) (pos b) = le-not-lt a b
+at-most-is (pos a) (negsuc b) = refl
+at-most-is (negsuc a) (pos b) = refl
+at-most-is (negsuc a) (negsuc b) = le-not-lt b a
 
 module _ {a b : ℤ} where
   pub lower→le : a <ℤ b → a ≤ℤ b

@@ -155,14 +155,14 @@ pub fn checks() {
     check(b"0-0 0/5 at 4, 0: ", 1, &[0u32, 0, 0, 5], 4, &[0u32]);
 }
 
-// The smallest margin: of one rule, of two that are the same in a pair or in two pairs, of none.
+// The smallest margin: of one rule, of two that are the same in a pair or in two pairs, of none; the largest and the smallest there are.
 pub fn margins() {
     let p = [0u32, 1, 7, 10, 1, 0, 1, 3];
     check(b"P at 10, 0 3: ", 2, &p, 10, &[0u32, 3]);
     check(
         b"setup and hold the same: ",
         2,
-        &[0u32, 1, 5, 10],
+        &[0u32, 1, 6, 10],
         12,
         &[2u32, 4],
     );
@@ -191,14 +191,16 @@ pub fn margins() {
     check(
         b"the largest: ",
         2,
-        &[0u32, 1, 0, 0],
+        &[0u32, 1, 504_999, 505_000],
         1_009_999,
-        &[0u32, 516_109_489],
+        &[0u32, 0],
     );
-    check(
+    let one = [0u32, 1, 1_000_000, 1_000_000];
+    needy_check(
         b"the smallest: ",
         2,
-        &[0u32, 1, 0, 1_000_000],
+        &one,
+        &[0u32, 0, 0, 9_999],
         1,
         &[516_109_489u32, 0],
     );

@@ -238,7 +238,7 @@ fn check_usage(to: i32, errors: i32) {
     );
     write_out(
         to,
-        b"FILE, or on standard input. Prints admissible, or the first pair that breaks a rule.\n",
+        b"FILE, or on standard input. Prints admissible, or the first pair that breaks a rule; then the smallest margin of all.\n",
         errors,
     );
 }

@@ -1,8 +1,8 @@
 // The programs on what they refuse or find wrong: texts that are empty, faulty, cut at the end of a line, or name register 2 of 2; needs
 // after a pair, too large, above a least delay, or of one register of two; lists that are refused, and two that are shown, without
-// needs and with them; no split; schedules that break hold and setup, are faulty, have a timing too few or one too large; periods and
-// offsets out of range; a text that is too long, a directory, output that cannot be written, and no arguments. Then texts without
-// needs, with needs in the last line, and of the largest size, with commas.
+// needs and with them; no split; schedules that break hold and setup, are faulty, have a timing too few or one too large; schedules with
+// margins of each sign, and of a list without pairs; periods and offsets out of range; a text that is too long, a directory, output that
+// cannot be written, and no arguments. Then texts without needs, with needs in the last line, and of the largest size, with commas.
 use libc::STDOUT_FILENO;
 use text_programs::check_from;
 use text_programs::make_from;
@@ -27,10 +27,10 @@ fn split(period: u32, offset: u32) {
     );
 }
 
-fn check(period: u32, name: &[u8]) {
+fn check(list: &[u8], period: u32, name: &[u8]) {
     check_from(
-        os::open_read(b"list"),
-        b"list",
+        os::open_read(list),
+        list,
         period,
         os::open_read(name),
         name,
@@ -81,12 +81,21 @@ fn lists() {
 }
 
 fn schedules() {
-    check(7, b"late");
-    check(7, b"wide");
-    check(7, b"word");
-    check(7, b"few");
-    check(7, b"high");
-    check(1_010_000, b"wide");
+    check(b"list", 7, b"late");
+    check(b"list", 7, b"wide");
+    check(b"list", 7, b"word");
+    check(b"list", 7, b"few");
+    check(b"list", 7, b"high");
+    check(b"list", 1_010_000, b"wide");
+}
+
+// Margins of 0, above and below it, with needs, and of a list without pairs.
+fn margins() {
+    check(b"list", 7, b"met");
+    check(b"list", 10, b"met");
+    check(b"list", 5, b"met");
+    check(b"needs", 9, b"met");
+    check(b"pairless", 7, b"met");
 }
 
 fn main() {
@@ -94,6 +103,7 @@ fn main() {
     needs();
     lists();
     schedules();
+    margins();
     text_programs::split_at(STDOUT_FILENO, STDOUT_FILENO);
     text_programs::check_schedule(STDOUT_FILENO, STDOUT_FILENO);
     make(b"plain");
