@@ -6,7 +6,7 @@
  * Slices are a pointer and a count of places. No pointer may be null, not even with the count 0, and no two of
  * one call may overlap. `reply` has DARNERFLAX_REPLY places, all of which are set by every call:
  *   reply[0]      how many values there are
- *   reply[1..4]   the values, then zeros
+ *   reply[1..8]   the values, then zeros
  * A refusal has one value, its place, counted from 0.
  *
  * Refusals of the list: 11 count of words, 12 head, 13 kind of a word, spare bits or a need above 9,999, 14 register,
@@ -17,7 +17,7 @@
  *
  * Status and reply tell one answer of the job, and all that the job promises of it is proved of the C function too:
  * a plan that nobody beats, a list that reads back as it was written, a check that passes the admissible schedules
- * and no other.
+ * and no other and reports the smallest margin of all.
  *
  * n is the count of registers (1 to 512), m the count of pairs (0 to 2,048). Times are in picoseconds: delays up to
  * 1,000,000, needs up to 9,999, periods and offsets up to 1,009,999, timings up to 516,109,489.
@@ -80,9 +80,13 @@ uint32_t darnerflax_write(uint32_t n,
                           uint64_t reply[DARNERFLAX_REPLY]);
 
 /* Checks a schedule, a timing for each register, at a period.
- * No value if it is admissible. Else two: the first pair that breaks a rule, and the rule, 0 setup or 1 hold
- * (setup is named before hold). Refusals: 11 to 19; 3 for a period outside 1 to 1,009,999, a timing above
- * 516,109,489 or not exactly n timings. */
+ * Values: the smallest margin of all, with sign, the first pair that has it, and its rule, 0 setup or 1 hold (setup comes
+ * before hold); these three if the schedule is admissible. Else two more: the first pair that breaks a rule, and the rule
+ * (setup is named before hold). No value for a list without pairs, for which every schedule is admissible.
+ * The margin of a rule is its right side minus its left side: 0 where it is just met, below 0 where it is broken. It is
+ * told in two's complement and is at most 517,119,488 either way:
+ *   int64_t margin = (int64_t)reply[1];
+ * Refusals: 11 to 19; 3 for a period outside 1 to 1,009,999, a timing above 516,109,489 or not exactly n timings. */
 uint32_t darnerflax_check(const uint32_t *words, size_t words_len,
                           uint32_t period,
                           const uint32_t *timings, size_t timings_len,

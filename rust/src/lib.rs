@@ -6,7 +6,7 @@
 use std::error::Error;
 use std::fmt;
 
-const REPLY_PLACES: usize = 5;
+const REPLY_PLACES: usize = 9;
 
 /// The largest counts of a list.
 pub const MAX_REGISTERS: usize = 512;
@@ -81,11 +81,29 @@ pub enum Rule {
     Hold,
 }
 
-/// What checking a schedule finds: each pair meets both rules, or the first pair that does not.
+/// The smallest margin of all, in picoseconds, with the first pair that has it and its rule, setup before hold. The margin of a
+/// rule is its right side minus its left side: 0 where it is just met, negative where it is broken.
+#[derive(Clone, Copy, Debug, PartialEq, Eq)]
+pub struct Smallest {
+    pub margin: i64,
+    pub pair: usize,
+    pub rule: Rule,
+}
+
+/// What checking a schedule finds: each pair meets both rules, or the first pair that does not and the rule that it breaks;
+/// either way with the smallest margin. A list without pairs has no margin: every schedule is admissible.
 #[derive(Clone, Copy, Debug, PartialEq, Eq)]
 pub enum Checked {
-    Admissible,
-    Broken { pair: usize, rule: Rule },
+    NoPairs,
+    Admissible { smallest: Smallest },
+    Broken { pair: usize, rule: Rule, smallest: Smallest },
+}
+
+impl Checked {
+    /// Whether each pair meets both rules.
+    pub fn is_admissible(&self) -> bool {
+        !matches!(self, Checked::Broken { .. })
+    }
 }
 
 #[derive(Clone, Copy, Debug, PartialEq, Eq)]
@@ -192,16 +210,27 @@ pub fn write(n: u32, numbers: &[u32], needs: &[u32], answer: &mut [u32]) -> Resu
     Ok(count as usize)
 }
 
+/// A rule by its number.
+fn rule_of(number: u64) -> Rule {
+    if number == 0 {
+        Rule::Setup
+    } else {
+        Rule::Hold
+    }
+}
+
 /// Checks a schedule, a timing for each register, at a period.
 pub fn check(words: &[u32], period: u32, timings: &[u32]) -> Result<Checked, Refusal> {
     // SAFETY: as for `read`.
-    let [count, pair, rule, ..] =
+    let [count, margin, pair, rule, broken, broken_rule, ..] =
         told(|reply| unsafe { darnerflax_check(words.as_ptr(), words.len(), period, timings.as_ptr(), timings.len(), reply) })?;
-    if count == 0 {
-        return Ok(Checked::Admissible);
-    }
-    let rule = if rule == 0 { Rule::Setup } else { Rule::Hold };
-    Ok(Checked::Broken { pair: pair as usize, rule })
+    // the margin is told in two's complement
+    let smallest = Smallest { margin: margin as i64, pair: pair as usize, rule: rule_of(rule) };
+    Ok(match count {
+        0 => Checked::NoPairs,
+        3 => Checked::Admissible { smallest },
+        _ => Checked::Broken { pair: broken as usize, rule: rule_of(broken_rule), smallest },
+    })
 }
 
 /// The common and the free period; the least free schedule fills the first n places of `answer`.
@@ -236,7 +265,7 @@ pub fn split(words: &[u32], period: u32, offset: u32, answer: &mut [u32], scratc
 /// places of `scratch` are left zero.
 pub fn plan(words: &[u32], answer: &mut [u32], scratch: &mut [u32]) -> Result<Plan, Refusal> {
     // SAFETY: as for `read`.
-    let [_, common, free, two, offset] = told(|reply| unsafe {
+    let [_, common, free, two, offset, ..] = told(|reply| unsafe {
         darnerflax_plan(
             words.as_ptr(),
             words.len(),

@@ -77,14 +77,24 @@ fn needs_read_and_written() {
     assert_eq!(list(2, &answer[..8]), P);
 }
 
+/// Each pair meets both rules: the smallest margin, its pair and its rule.
+fn met(margin: i64, pair: usize, rule: Rule) -> Result<Checked, Refusal> {
+    Ok(Checked::Admissible { smallest: Smallest { margin, pair, rule } })
+}
+
+/// The first pair that breaks a rule, and then the smallest margin.
+fn broken(pair: usize, rule: Rule, smallest: (i64, usize, Rule)) -> Result<Checked, Refusal> {
+    Ok(Checked::Broken { pair, rule, smallest: Smallest { margin: smallest.0, pair: smallest.1, rule: smallest.2 } })
+}
+
 #[test]
 fn checks_with_needs() {
-    assert_eq!(check(&NEEDY, 8, &[0, 3]), Ok(Checked::Admissible));
-    assert_eq!(check(&NEEDY, 7, &[0, 3]), Ok(Checked::Broken { pair: 0, rule: Rule::Setup }));
-    assert_eq!(check(&NEEDY, 8, &[0, 4]), Ok(Checked::Broken { pair: 1, rule: Rule::Setup }));
-    assert_eq!(check(&NEEDY, 11, &[0, 5]), Ok(Checked::Admissible));
-    assert_eq!(check(&NEEDY, 11, &[0, 6]), Ok(Checked::Broken { pair: 0, rule: Rule::Hold }));
-    assert_eq!(check(&NEEDY, 12, &[1, 0]), Ok(Checked::Broken { pair: 1, rule: Rule::Hold }));
+    assert_eq!(check(&NEEDY, 8, &[0, 3]), met(0, 0, Rule::Setup));
+    assert_eq!(check(&NEEDY, 7, &[0, 3]), broken(0, Rule::Setup, (-1, 0, Rule::Setup)));
+    assert_eq!(check(&NEEDY, 8, &[0, 4]), broken(1, Rule::Setup, (-1, 1, Rule::Setup)));
+    assert_eq!(check(&NEEDY, 11, &[0, 5]), met(0, 0, Rule::Hold));
+    assert_eq!(check(&NEEDY, 11, &[0, 6]), broken(0, Rule::Hold, (-1, 0, Rule::Hold)));
+    assert_eq!(check(&NEEDY, 12, &[1, 0]), broken(1, Rule::Hold, (-1, 1, Rule::Hold)));
 }
 
 #[test]
@@ -108,10 +118,13 @@ fn edges_of_a_list() {
 
 #[test]
 fn checks_of_p() {
-    assert_eq!(check(&P, 7, &[0, 3]), Ok(Checked::Admissible));
-    assert_eq!(check(&P, 6, &[0, 3]), Ok(Checked::Broken { pair: 0, rule: Rule::Setup }));
-    assert_eq!(check(&P, 10, &[0, 8]), Ok(Checked::Broken { pair: 0, rule: Rule::Hold }));
+    assert_eq!(check(&P, 7, &[0, 3]), met(0, 0, Rule::Setup));
+    assert_eq!(check(&P, 10, &[0, 3]), met(3, 0, Rule::Setup));
+    assert_eq!(check(&P, 6, &[0, 3]), broken(0, Rule::Setup, (-1, 0, Rule::Setup)));
+    assert_eq!(check(&P, 7, &[0, 8]), broken(0, Rule::Hold, (-4, 1, Rule::Setup)));
     assert_eq!(check(&P, 10, &[0]), Err(Refusal { number: 3, place: 0 }));
+    assert_eq!(check(&list(2, &[]), 1, &[0, 3]), Ok(Checked::NoPairs));
+    assert_eq!([7, 6].map(|period| check(&P, period, &[0, 3]).unwrap().is_admissible()), [true, false]);
 }
 
 #[test]

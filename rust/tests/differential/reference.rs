@@ -1,6 +1,6 @@
 //! The second implementation: own list format, Bellman-Ford on the constraint graph with halving over the period, 2-SAT by
 //! strongly connected components, halving for the plan; and plain searches for small nets.
-use darnerflax::{Checked, Periods, Plan, Refusal, Rule};
+use darnerflax::{Checked, Periods, Plan, Refusal, Rule, Smallest};
 
 #[derive(Clone, Copy, Debug, PartialEq, Eq)]
 pub struct Pair {
@@ -195,21 +195,36 @@ impl Net {
         self.pairs.iter().map(|p| self.longest_way(p) as u32).fold(1, u32::max)
     }
 
+    /// What is left of each rule, pair by pair, setup before hold: below 0 where it is broken.
+    pub fn margins(&self, period: u32, timings: &[u32]) -> Vec<i64> {
+        self.pairs
+            .iter()
+            .flat_map(|p| {
+                let later = timings[p.capture] as i64 - timings[p.launch] as i64;
+                [period as i64 - self.longest_way(p) + later, self.shortest_way(p) - later]
+            })
+            .collect()
+    }
+
     pub fn check(&self, period: u32, timings: &[u32]) -> Checked {
-        for (pair, p) in self.pairs.iter().enumerate() {
-            let (a, b) = (timings[p.launch] as i64, timings[p.capture] as i64);
-            if a - b > period as i64 - self.longest_way(p) {
-                return Checked::Broken { pair, rule: Rule::Setup };
-            }
-            if b - a > self.shortest_way(p) {
-                return Checked::Broken { pair, rule: Rule::Hold };
+        let margins = self.margins(period, timings);
+        let named = |i: usize| (i / 2, if i % 2 == 0 { Rule::Setup } else { Rule::Hold });
+        let Some(&margin) = margins.iter().min() else {
+            return Checked::NoPairs;
+        };
+        let (pair, rule) = named(margins.iter().position(|m| *m == margin).unwrap());
+        let smallest = Smallest { margin, pair, rule };
+        match margins.iter().position(|m| *m < 0) {
+            None => Checked::Admissible { smallest },
+            Some(i) => {
+                let (pair, rule) = named(i);
+                Checked::Broken { pair, rule, smallest }
             }
         }
-        Checked::Admissible
     }
 
     pub fn meets(&self, period: u32, timings: &[u32]) -> bool {
-        self.check(period, timings) == Checked::Admissible
+        self.margins(period, timings).iter().all(|m| *m >= 0)
     }
 
     /// Bellman-Ford for longest paths from a source that reaches each register at 0. None if a cycle keeps growing.

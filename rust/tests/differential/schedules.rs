@@ -1,5 +1,5 @@
 //! Jobs 2 and 3: checking a schedule, the free period and the free schedule.
-use darnerflax::{check, free, Checked, Periods, Rule};
+use darnerflax::{check, free, Checked, Periods, Rule, Smallest};
 
 use crate::lent::Lent;
 use crate::random::{damaged, exact_net, net, words, Random, Size};
@@ -9,7 +9,8 @@ use crate::trails::{least_timings, longest_cycle, Fraction};
 
 fn named(found: &Checked) -> &'static str {
     match found {
-        Checked::Admissible => "admissible",
+        Checked::NoPairs => "no pairs",
+        Checked::Admissible { .. } => "admissible",
         Checked::Broken { rule: Rule::Setup, .. } => "setup",
         Checked::Broken { rule: Rule::Hold, .. } => "hold",
     }
@@ -56,7 +57,10 @@ fn try_near(random: &mut Random, periods: Periods, mut timings: Vec<u32>, words:
     try_check(random, words, period, &timings, tally);
 }
 
-const CHECKED: &[&str] = &["admissible", "setup", "hold", "3", "11", "12", "13", "14", "15", "16", "17", "18", "19"];
+const CHECKED: &[&str] = &["admissible", "no pairs", "setup", "hold", "3", "11", "12", "13", "14", "15", "16", "17", "18", "19"];
+
+/// A full list has pairs.
+const FULL_CHECKED: &[&str] = &["admissible", "setup", "hold", "3", "11", "12", "13", "14", "15", "16", "17", "18", "19"];
 
 #[test]
 fn small_schedules_checked() {
@@ -89,7 +93,45 @@ fn full_schedules_checked() {
             try_near(&mut random, periods, timings.clone(), &words, &mut tally);
         }
     }
-    tally.all_met("full schedules checked", CHECKED);
+    tally.all_met("full schedules checked", FULL_CHECKED);
+}
+
+/// Signs of the smallest margin, and which margins are the same.
+fn count_margins(net: &Net, period: u32, timings: &[u32], tally: &mut Tally) {
+    let margins = net.margins(period, timings);
+    let Some(low) = margins.iter().min() else {
+        tally.count("no pairs");
+        return;
+    };
+    tally.count(match low.signum() {
+        1 => "above 0",
+        0 => "at 0",
+        _ => "below 0",
+    });
+    let same: Vec<usize> = (0..margins.len()).filter(|i| margins[*i] == *low).collect();
+    match same[..] {
+        [_] => {}
+        [i, j, ..] if i / 2 == j / 2 => tally.count("setup and hold of a pair the same"),
+        [i, j, ..] if i % 2 == 1 && j % 2 == 0 => tally.count("hold, and setup of a later pair the same"),
+        _ => tally.count("two pairs the same"),
+    }
+}
+
+/// Any schedule with timings up to four, so that many margins are the same.
+#[test]
+fn small_margins() {
+    let mut random = Random::new(19);
+    let (mut answers, mut margins) = (Tally::default(), Tally::default());
+    for _ in 0..100_000 {
+        let net = net(&mut random, Size { registers: 4, pairs: 5, delay: 4, need: 2 });
+        let timings: Vec<u32> = (0..net.registers()).map(|_| random.upto(4)).collect();
+        let period = 1 + random.upto(8);
+        try_check(&mut random, &encode(&net), period, &timings, &mut answers);
+        count_margins(&net, period, &timings, &mut margins);
+    }
+    answers.all_met("small margins", &["admissible", "no pairs", "setup", "hold"]);
+    let ties = ["setup and hold of a pair the same", "hold, and setup of a later pair the same", "two pairs the same"];
+    margins.all_met("small margins", &[&["above 0", "at 0", "below 0", "no pairs"], &ties[..]].concat());
 }
 
 fn try_free(random: &mut Random, words: &[u32], tally: &mut Tally) {
@@ -184,16 +226,17 @@ fn limits_of_a_schedule() {
     let needs = vec![Need { hold: 0, setup: 9_999 }; 2];
     let words = encode(&Net { needs, pairs: vec![Pair { launch: 0, capture: 1, least: 1_000_000, greatest: 1_000_000 }] });
     let at = |period, timings: [u32; 2]| check(&words, period, &timings);
-    let setup = Checked::Broken { pair: 0, rule: Rule::Setup };
-    let hold = Checked::Broken { pair: 0, rule: Rule::Hold };
+    let met = |margin, rule| Ok(Checked::Admissible { smallest: Smallest { margin, pair: 0, rule } });
+    let broken = |margin, rule| Ok(Checked::Broken { pair: 0, rule, smallest: Smallest { margin, pair: 0, rule } });
     assert_eq!(
         [at(1_009_998, [0, 0]), at(1_009_999, [0, 0]), at(1_010_000, [0, 0])],
-        [Ok(setup), Ok(Checked::Admissible), refuse(3, 0)]
+        [broken(-1, Rule::Setup), met(0, Rule::Setup), refuse(3, 0)]
     );
-    assert_eq!([at(1, [0, 516_109_489]), at(1, [0, 516_109_490])], [Ok(hold), refuse(3, 0)]);
+    assert_eq!([at(1, [0, 516_109_489]), at(1, [0, 516_109_490])], [broken(-515_109_489, Rule::Hold), refuse(3, 0)]);
+    assert_eq!(at(1, [516_109_489, 0]), broken(-517_119_487, Rule::Setup));
     assert_eq!(
         [at(9_999, [515_109_489, 516_109_489]), at(9_998, [515_109_489, 516_109_489])],
-        [Ok(Checked::Admissible), Ok(setup)]
+        [met(0, Rule::Setup), broken(-1, Rule::Setup)]
     );
 }
 
