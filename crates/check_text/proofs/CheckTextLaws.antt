@@ -1,6 +1,6 @@
 -- From what checking and scanning promise to the text that is stored: a fault in the text, a refusal, no pairs, an admissible schedule,
 -- or the first pair that breaks a rule.
-use Prim.Native.Nat.{ℕ, _≤_, _<_}
+use Prim.Native.Nat.{ℕ, _≤_}
 use mathlib.Core.Bool.{false}
 use mathlib.Core.List.{List, [], _∷_}
 use mathlib.Core.Path.{_≡_, refl, sym, ap, subst, _∙_}

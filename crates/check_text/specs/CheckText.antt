@@ -2,7 +2,7 @@
 -- smallest margin of all.
 use Prim.Native.Nat.{ℕ, _+_}
 use mathlib.Core.Bool.{false, _||_, cond}
-use mathlib.Core.List.{List, [], _∷_, _++_}
+use mathlib.Core.List.{List, [], _++_}
 use lib.Dec.{ltb, eqb}
 use lib.IntN.{ℤ}
 use lib.ListN.{length}

@@ -10,10 +10,10 @@ use native.Mathlib.Omega.{arith}
 use borrow.Author.Count.{below-more}
 use borrow.Author.Tests.{not-true, not-false, lt-ltb, le-ltb, ltb-true, ltb-false, eq-eqb, ne-eqb, eqb-true, eqb-false}
 use lib.Dec.{ltb, eqb}
-use lib.IntN.{pos}
+use lib.IntN.{pos, natAbs}
 use lib.ListN.{length, drop, getD, drop-of-length-le}
 use lib.Seq.{drop-cons}
-use lib.Signed.{mag, nonNeg, leZ}
+use lib.Signed.{nonNeg, leZ}
 use Rattle.timing.specs.Rules.{time, admissible, Each}
 use Rattle.timing.specs.Limits.{maxPeriod, maxTiming}
 use Rattle.timing.proofs.MarginLaws.{lt-or-le, at-least-nought, size}
@@ -180,17 +180,17 @@ module _ (ws : List ℕ) (t : ℕ) (s : List ℕ) where
       (λ h l q. let z : _≡_ {A = ℕ} 0 1 = cc in absurd (omega arith)) (λ h l q. let same : k ≡ firstBroken ws t s = cc in omega arith)
 
   module _ (usable : IsUsable ws) (few : t ≤ maxPeriod) (limit : (r : ℕ) → time s r ≤ maxTiming) where
-    margin-within : (k : ℕ) → k < pairCount ws → (rule : Rule) → mag (marginAt ws t s k rule) < suc (maxTiming + maxPeriod)
+    margin-within : (k : ℕ) → k < pairCount ws → (rule : Rule) → natAbs (marginAt ws t s k rule) ≤ maxTiming + maxPeriod
     unfolding marginAt
     margin-within k h Setup =
         let p = pairAt ws k in
         let v = is-pair ws k (record { usable = usable; below = h }) .values in
-        size (time s (p .capture) + t) (time s (p .launch) + p .greatest) (suc (maxTiming + maxPeriod))
+        size (time s (p .capture) + t) (time s (p .launch) + p .greatest) (maxTiming + maxPeriod)
         (omega (arith, few, limit (p .capture))) (omega (arith, limit (p .launch), v .limit))
     margin-within k h Hold =
         let p = pairAt ws k in
         let v = is-pair ws k (record { usable = usable; below = h }) .values in
-        size (time s (p .launch) + p .least) (time s (p .capture)) (suc (maxTiming + maxPeriod))
+        size (time s (p .launch) + p .least) (time s (p .capture)) (maxTiming + maxPeriod)
         (omega (arith, limit (p .launch), v .order, v .limit)) (omega (arith, limit (p .capture)))
 
     smallest-all : 0 < pairCount ws → IsSmallest ws t s (smallest ws t s)
@@ -201,7 +201,7 @@ module _ (ws : List ℕ) (t : ℕ) (s : List ℕ) where
           smallest = smallest-least ws t s h;
           first = smallest-first ws t s h;
           sign = sign-is ws t s h;
-          within = let m = margin-within (smallest ws t s .pair) (smallest-below ws t s h) (smallest ws t s .rule) in rw (smallest-is ws t s h) (omega arith);
+          within = rw (smallest-is ws t s h) (margin-within (smallest ws t s .pair) (smallest-below ws t s h) (smallest ws t s .rule));
         }
 
     answer-margin : Each (IsSmallest ws t s) (reported (answerFor ws t s))

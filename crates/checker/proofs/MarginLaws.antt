@@ -1,5 +1,5 @@
 -- The margins of one pair, and the walk over all of them: what it comes to after each pair.
-use Prim.Native.Nat.{ℕ, suc, _+_, _≤_, _<_, zero-le}
+use Prim.Native.Nat.{ℕ, _+_, _≤_, _<_, zero-le}
 use mathlib.Core.Bool.{Bool, true, false, not, _&&_, cond, false≢true}
 use mathlib.Core.List.{List}
 use mathlib.Core.Logic.{_⊎_, inl, inr}
@@ -10,12 +10,11 @@ use lib.IntN.{ℤ, pos, negsuc}
 use lib.Signed.{nonNeg, leZ, ltZ, _≤ℤ_, _<ℤ_, ≤ℤ-refl, <ℤ-≤ℤ-trans}
 use Rattle.timing.specs.declared.Pair.{Pair}
 use Rattle.timing.specs.Rules.{setupMargin, holdMargin, time}
-use Rattle.timing.proofs.RuleLaws.{and-true}
 use Rattle.timing.proofs.MarginLaws.{lt-or-le, at-least-nought, below-nought}
 use Rattle.search.specs.Lowest.{lowest}
 use Rattle.search.proofs.SearchLaws.{least-is}
 use Rattle.search.proofs.LowestLaws.{IsLowest, lowest-is, lowest-one, lowest-lower, lowest-kept, lower→le, lower-true, lower-false, le-trans, at-most-is}
-use Rattle.list_format.specs.Lists.{pairCount, pairAt, IsPair}
+use Rattle.list_format.specs.Lists.{pairCount, IsPair}
 use Rattle.checker.specs.Check.{marginAt, lowRule, lowAt, smallestAt, smallest, metAt, firstBroken, brokenRule, ruleNumber, marginPlace}
 use Rattle.checker.specs.Check.{walkedOn, Walked}
 use Rattle.checker.specs.declared.Rule.{Rule}

@@ -5,9 +5,9 @@ use mathlib.Core.Bool.{Bool, true, false, not, _&&_, _||_, cond}
 use mathlib.Core.List.{List, [], _∷_, _++_}
 use mathlib.Core.Path.{_≡_}
 use lib.Dec.{ltb, eqb}
-use lib.IntN.{ℤ}
+use lib.IntN.{ℤ, natAbs}
 use lib.ListN.{length}
-use lib.Signed.{mag, nonNeg, ltZ, _≤ℤ_, _<ℤ_}
+use lib.Signed.{nonNeg, ltZ, _≤ℤ_, _<ℤ_}
 use Rattle.timing.specs.Rules.{setupMargin, holdMargin, time, admissible, Each}
 use Rattle.timing.specs.Limits.{maxPeriod, maxTiming}
 use Rattle.words.specs.Signed.{signedWord}
@@ -16,7 +16,7 @@ use Rattle.search.specs.Lowest.{lowest}
 use Rattle.refusals.specs.Checks.{Check, firstFault}
 use Rattle.refusals.specs.Reply.{Reply, refusal, numbers, Outcome, done, replyOf, answered}
 use Rattle.refusals.specs.declared.Fault.the-variants.{None}
-use Rattle.list_format.specs.Lists.{registers, pairCount, pairAt, pairs, differ, listChecks, IsAccepted}
+use Rattle.list_format.specs.Lists.{registers, pairCount, pairAt, pairs, differ, listChecks}
 use Rattle.checker.specs.declared.Rule.{Rule}
 use Rattle.checker.specs.declared.Rule.the-variants.{Setup, Hold}
 use Rattle.checker.specs.declared.Smallest.{Smallest}
@@ -147,7 +147,7 @@ pub record IsSmallest (ws : List ℕ) (t : ℕ) (s : List ℕ) (x : Smallest) : 
   pub first : (k : ℕ) (rule : Rule) → marginPlace k rule < marginPlace (x .pair) (x .rule) → x .margin <ℤ marginAt ws t s k rule
   -- its sign tells whether the schedule is admissible
   pub sign : admissible t (pairs ws) s ≡ nonNeg (x .margin)
-  pub within : mag (x .margin) ≤ maxTiming + maxPeriod
+  pub within : natAbs (x .margin) ≤ maxTiming + maxPeriod
 
 -- the schedule s was checked against the words ws at the period t
 pub record CheckedAs (ws : List ℕ) (t : ℕ) (s : List ℕ) (r : Checking) : Type 0 where

@@ -8,6 +8,7 @@ use native.Mathlib.Omega.{arith}
 use lib.Dec.{ltb, eqb}
 use lib.ListN.{length, getD}
 use borrow.Author.Tests.{ltb-true}
+use Rattle.timing.proofs.MarginLaws.{size-mag}
 use Rattle.timing.proofs.RuleLaws.{and-true}
 use Rattle.refusals.specs.Checks.{Check, orCheck, faultAfter, eachCheck}
 use Rattle.refusals.specs.declared.Fault.{Fault}
@@ -178,7 +179,7 @@ smallestOf w k rule = record { margin = signedOf w; pair = k; rule = ruleOf rule
 -- nothing is lost of a margin that is promised
 smallest-known : {ws : List ℕ} {t : ℕ} {s : List ℕ} (x : Smallest) → IsSmallest ws t s x
     → smallestOf (signedWord (x .margin)) (x .pair) (ruleNumber (x .rule)) ≡ x
-smallest-known x is = rw (signed-back (x .margin) (omega (arith, is .within)), rule-known (x .rule))
+smallest-known x is = rw (signed-back (x .margin) (omega (arith, size-mag (x .margin) (is .within))), rule-known (x .rule))
 
 unfoldable pub checkAnswer : Reply → Checking
 checkAnswer = answerBy NotChecked (λ xs.

@@ -1,8 +1,8 @@
 -- `lowest` gives a place at which no number is lower, and before which each is higher.
 use mathlib.Core.Bool.{Bool, true, false, not, cond}
 use mathlib.Core.Logic.{_⊎_, inl, inr}
-use mathlib.Core.Path.{_≡_, refl, sym, ap}
-use Prim.Native.Nat.{ℕ, zero, suc, _+_, _≤_, _<_, zero-le}
+use mathlib.Core.Path.{_≡_, refl}
+use Prim.Native.Nat.{ℕ, zero, suc, _+_, _≤_, _<_}
 use native.Mathlib.Nat.{eq-or-lt-of-le}
 use native.Mathlib.Numerals.{add-one}
 use native.Mathlib.Omega.{arith}
@@ -19,14 +19,6 @@ lt-le (pos a) (pos b) h = let l = ltb→lt a b h in le→leb a b (omega arith)
 lt-le (pos a) (negsuc b) h = h
 lt-le (negsuc a) (pos b) h = tt
 lt-le (negsuc a) (negsuc b) h = let l = ltb→lt b a h in le→leb b a (omega arith)
-
-le-lt : (a b c : ℤ) → T (leZ a b) → T (ltZ b c) → T (ltZ a c)
-le-lt (pos a) (pos b) (pos c) h k = let l = leb→le a b h in let m = ltb→lt b c k in lt→ltb a c (omega arith)
-le-lt (pos a) (pos b) (negsuc c) h k = k
-le-lt (pos a) (negsuc b) c h k = absurd h
-le-lt (negsuc a) b (pos c) h k = tt
-le-lt (negsuc a) (pos b) (negsuc c) h k = absurd k
-le-lt (negsuc a) (negsuc b) (negsuc c) h k = let l = leb→le b a h in let m = ltb→lt c b k in lt→ltb c a (omega arith)
 
 le-le : (a b c : ℤ) → T (leZ a b) → T (leZ b c) → T (leZ a c)
 le-le (pos a) (pos b) (pos c) h k = let l = leb→le a b h in let m = leb→le b c k in le→leb a c (omega arith)
@@ -61,12 +53,8 @@ module _ {a b : ℤ} where
   pub lower-false : ltZ a b ≡ false → b ≤ℤ a
   lower-false e = ltZ-no (rw e tt)
 
-  module _ {c : ℤ} where
-    pub le-lower : a ≤ℤ b → b <ℤ c → a <ℤ c
-    le-lower h k = record { lt = le-lt a b c (h .le) (k .lt) }
-
-    pub le-trans : a ≤ℤ b → b ≤ℤ c → a ≤ℤ c
-    le-trans h k = record { le = le-le a b c (h .le) (k .le) }
+  pub le-trans : {c : ℤ} → a ≤ℤ b → b ≤ℤ c → a ≤ℤ c
+  le-trans {c} h k = record { le = le-le a b c (h .le) (k .le) }
 
 -- ---- the place
 

@@ -7,7 +7,7 @@ use native.Mathlib.Nat.{add-zero, sub-zero}
 use native.Mathlib.Omega.{arith}
 use borrow.Author.Tests.{lt-ltb, le-ltb, le-leb, lt-leb, leb-true, ltb-true, ltb-false}
 use lib.Dec.{leb, ltb}
-use lib.IntN.{ℤ, pos, negsuc, subℕ, _-ℤ_}
+use lib.IntN.{ℤ, pos, negsuc, natAbs, subℕ, _-ℤ_}
 use lib.Signed.{mag, nonNeg, leZ, ltZ}
 use mir.Syntax.{w64}
 use mir.Val.{SFits, toZ, ofZ}
@@ -64,10 +64,20 @@ both-more a b c = go (lt-or-le a b)
         let same : a + c - (b + c) ≡ a - b = omega arith in
         rw (above a b h, above (a + c) (b + c) more) (ap pos same)
 
--- ---- the size
+-- ---- the size: no larger than the larger of the two
 
-pub size : (a b most : ℕ) → a < most → b < most → mag (subℕ a b) < most
+pub size : (a b most : ℕ) → a ≤ most → b ≤ most → natAbs (subℕ a b) ≤ most
 size a b most ha hb = ⊎-elim (λ h. rw (below a b h) (omega arith)) (λ h. rw (above a b h) (omega arith)) (lt-or-le a b)
+
+pub size-mag : (z : ℤ) {most : ℕ} → natAbs z ≤ most → mag z ≤ most
+size-mag (pos n) h = h
+size-mag (negsuc n) h = omega arith
+
+fits : (a b half : ℕ) → a < half → b < half → mag (subℕ a b) < half
+fits a b zero ha hb = absurd (omega arith)
+fits a b (suc most) ha hb =
+    let small = size-mag (subℕ a b) (size a b most (omega arith) (omega arith)) in
+    omega arith
 
 minus-is : (a b : ℕ) → pos a -ℤ pos b ≡ subℕ a b
 minus-is a zero = rw (add-zero, above a zero (omega arith), sub-zero)
@@ -87,7 +97,7 @@ module _ (a b : ℕ) (ha : a < 2 ^ 63) (hb : b < 2 ^ 63) where
   read = rw (toZ-pos w64 a ha, toZ-pos w64 b hb) (minus-is a b)
 
   pub minus-fits : SFits w64 (toZ w64 a -ℤ toZ w64 b)
-  minus-fits = rw read (record { sfits = size a b (2 ^ 63) ha hb })
+  minus-fits = rw read (record { sfits = fits a b (2 ^ 63) ha hb })
 
   pub minus-read : toZ w64 (ofZ w64 (toZ w64 a -ℤ toZ w64 b)) ≡ subℕ a b
   minus-read = toZ-ofZ w64 _ minus-fits ∙ read

@@ -1,5 +1,4 @@
 -- `tell_admissible`: three values, the first with its sign as a word.
-use mathlib.Core.Path.{refl}
 use borrow.Author.Needs.{needs}
 use Rattle.timing.proofs.MarginLaws.{as-read}
 use Rattle.checker.specs.Check.{smallestNumbers, checkValues, checkReply}

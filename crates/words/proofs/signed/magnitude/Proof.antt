@@ -3,7 +3,6 @@ use native.Mathlib.Omega.{arith}
 use mir.Syntax.{w64}
 use mir.ValLaws.{toZ-ofZ}
 use Rattle.words.proofs.SignedLaws.{up, down}
-use borrow.Author.Needs.{needs}
 use Rattle.words.proofs.signed.magnitude.Statement.{statement}
 use Rattle.words.proofs.signed.magnitude.Tie as tie
 
