@@ -28,23 +28,6 @@ pub fn setup_of(needs: &[u32], register: u32) -> u32 {
     at(needs, 2 * (register as usize) + 1)
 }
 
-fn setup(numbers: &[u32], needs: &[u32], k: usize, period: u32, s: &[u32]) -> bool {
-    let capture = number(numbers, k, 1);
-    let greatest = number(numbers, k, 3);
-    let a = at(s, number(numbers, k, 0) as usize);
-    let b = at(s, capture as usize);
-    (a as u64) + (greatest as u64) + (setup_of(needs, capture) as u64)
-        <= (b as u64) + (period as u64)
-}
-
-fn hold(numbers: &[u32], needs: &[u32], k: usize, s: &[u32]) -> bool {
-    let capture = number(numbers, k, 1);
-    let least = number(numbers, k, 2);
-    let a = at(s, number(numbers, k, 0) as usize);
-    let b = at(s, capture as usize);
-    (b as u64) + (hold_of(needs, capture) as u64) <= (a as u64) + (least as u64)
-}
-
 // A margin, as a word of 64 bits that wraps below 0, and its place: the pair twice over, and one more for hold.
 pub struct Margin {
     pub word: u64,
@@ -54,6 +37,7 @@ pub struct Margin {
 // Words from here on are below 0.
 const BELOW: u64 = 0x8000_0000_0000_0000;
 
+// Whether a margin is smaller than another, by their signs.
 fn lower(a: u64, b: u64) -> bool {
     std::num::wrapping_add_u64(a, BELOW) < std::num::wrapping_add_u64(b, BELOW)
 }
@@ -110,10 +94,10 @@ pub fn broken(numbers: &[u32], needs: &[u32], m: usize, period: u32, s: &[u32]) 
 {
     let mut k = 0;
     while k < m {
-        if !setup(numbers, needs, k, period, s) {
+        if setup_margin(numbers, needs, k, period, s) >= BELOW {
             return 2 * k;
         }
-        if !hold(numbers, needs, k, s) {
+        if hold_margin(numbers, needs, k, s) >= BELOW {
             return 2 * k + 1;
         }
         k += 1;
