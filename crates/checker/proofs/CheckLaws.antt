@@ -112,7 +112,9 @@ module _ (ws : List ℕ) (t : ℕ) (s : List ℕ) where
       where
         go : (firstBroken ws t s < pairCount ws) ⊎ (pairCount ws ≤ firstBroken ws t s) → firstBroken ws t s < pairCount ws
         go (inl h) = h
-        go (inr h) = absurd (false≢true (sym n ∙ smallest-met ws t s some ∙ not-false _ (first-is .before _ zero-le (omega (arith, smallest-below ws t s some)))))
+        go (inr h) =
+            let met = first-is .before _ zero-le (omega (arith, smallest-below ws t s some)) in
+            absurd (false≢true (sym n ∙ smallest-met ws t s some ∙ not-false _ met))
 
     pub sign-is : admissible t (pairs ws) s ≡ nonNeg (smallest ws t s .margin)
     sign-is = go (nonNeg (smallest ws t s .margin)) refl

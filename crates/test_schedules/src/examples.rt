@@ -155,10 +155,8 @@ pub fn checks() {
     check(b"0-0 0/5 at 4, 0: ", 1, &[0u32, 0, 0, 5], 4, &[0u32]);
 }
 
-// The smallest margin: of one rule, of two that are the same in a pair or in two pairs, of none; the largest and the smallest there are.
-pub fn margins() {
-    let p = [0u32, 1, 7, 10, 1, 0, 1, 3];
-    check(b"P at 10, 0 3: ", 2, &p, 10, &[0u32, 3]);
+// The smallest margin where two are the same: in a pair, and in two pairs.
+pub fn ties() {
     check(
         b"setup and hold the same: ",
         2,
@@ -180,6 +178,13 @@ pub fn margins() {
         12,
         &[4u32, 4],
     );
+}
+
+// The smallest margin above 0, of another pair than the first broken one, of no pair; the largest and the smallest there are.
+pub fn margins() {
+    let p = [0u32, 1, 7, 10, 1, 0, 1, 3];
+    let one = [0u32, 1, 1_000_000, 1_000_000];
+    check(b"P at 10, 0 3: ", 2, &p, 10, &[0u32, 3]);
     check(
         b"pair 0 broken, pair 1 by more: ",
         2,
@@ -195,7 +200,6 @@ pub fn margins() {
         1_009_999,
         &[0u32, 0],
     );
-    let one = [0u32, 1, 1_000_000, 1_000_000];
     needy_check(
         b"the smallest: ",
         2,

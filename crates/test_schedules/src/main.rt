@@ -10,6 +10,7 @@ fn main() {
     examples::needy_free_schedules();
     examples::checks();
     examples::needy_checks();
+    examples::ties();
     examples::margins();
     examples::refusals();
     search::free_schedules();
