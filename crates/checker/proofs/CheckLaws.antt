@@ -113,8 +113,8 @@ module _ (ws : List ℕ) (t : ℕ) (s : List ℕ) where
         go : (firstBroken ws t s < pairCount ws) ⊎ (pairCount ws ≤ firstBroken ws t s) → firstBroken ws t s < pairCount ws
         go (inl h) = h
         go (inr h) =
-            let met = first-is .before _ zero-le (omega (arith, smallest-below ws t s some)) in
-            absurd (false≢true (sym n ∙ smallest-met ws t s some ∙ not-false _ met))
+            let below : smallest ws t s .pair < firstBroken ws t s = omega (arith, smallest-below ws t s some) in
+            absurd (false≢true (sym n ∙ smallest-met ws t s some ∙ not-false _ (first-is .before _ zero-le below)))
 
     pub sign-is : admissible t (pairs ws) s ≡ nonNeg (smallest ws t s .margin)
     sign-is = go (nonNeg (smallest ws t s .margin)) refl
