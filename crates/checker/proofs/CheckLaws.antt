@@ -144,16 +144,20 @@ module _ (ws : List ℕ) (t : ℕ) (s : List ℕ) where
       go zero none = absurd (none refl)
       go (suc m) none = omega arith
 
+  -- the answer for a schedule that breaks a rule
+  abbrev broken-answer : Checking
+  broken-answer = Broken (firstBroken ws t s) (brokenRule ws t s (firstBroken ws t s)) (smallest ws t s)
+
   -- what holds of each of its cases
   answer-by : (P : Checking → Type 0) → (pairCount ws ≡ 0 → P NoPairs)
       → (0 < pairCount ws → pairCount ws ≤ firstBroken ws t s → P (Admissible (smallest ws t s)))
-      → (0 < pairCount ws → firstBroken ws t s < pairCount ws → P (Broken (firstBroken ws t s) (brokenRule ws t s (firstBroken ws t s)) (smallest ws t s)))
+      → (0 < pairCount ws → firstBroken ws t s < pairCount ws → P broken-answer)
       → P (answerFor ws t s)
   unfolding answerFor
   answer-by P none met broken = go (eqb (pairCount ws) 0) refl (ltb (firstBroken ws t s) (pairCount ws)) refl
     where
       go : (b : Bool) → eqb (pairCount ws) 0 ≡ b → (c : Bool) → ltb (firstBroken ws t s) (pairCount ws) ≡ c
-          → P (cond b NoPairs (cond c (Broken (firstBroken ws t s) (brokenRule ws t s (firstBroken ws t s)) (smallest ws t s)) (Admissible (smallest ws t s))))
+          → P (cond b NoPairs (cond c broken-answer (Admissible (smallest ws t s))))
       go true e c q = none (eqb-true (pairCount ws) 0 e)
       go false e true q = let l = ltb-true (firstBroken ws t s) (pairCount ws) q in broken (omega arith) l
       go false e false q = met (some-pairs e) (ltb-false (firstBroken ws t s) (pairCount ws) q)

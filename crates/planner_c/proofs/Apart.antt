@@ -62,7 +62,8 @@ pub record Telling {A : Type 0} (f : A → Reply) (answerOf : Reply → A) (Prom
 
 module _ {A : Type 0} {f : A → Reply} {answerOf : Reply → A} {Promised : A → Type 0} where
   -- where the record gives the numbers for every input, they can be told
-  pub telling : ((a : A) → Promised a → answerOf (f a) ≡ a) → {q : Reply} → Tellable q → ((a : A) → Promised a → f a ≡ q) → Telling f answerOf Promised
+  pub telling : ((a : A) → Promised a → answerOf (f a) ≡ a) → {q : Reply} → Tellable q → ((a : A) → Promised a → f a ≡ q)
+      → Telling f answerOf Promised
   telling known h reply = record { known = known; tellable = λ a p. rw (reply a p) h }
 
   module _ (t : Telling f answerOf Promised) {r : ℕ} {reply : List ℕ} (w : AnswerCoded f Promised r reply) where
