@@ -1,14 +1,13 @@
-// The marks of the registers, and what the broken choices of one pair force on them, by the table of four rows.
-// The contracts cite `specs/Marks.antt` and `specs/Table.antt` of the crate `split_laws`.
+// The marks of the registers, and what the broken choices of one pair force on them.
+// The contracts cite `specs/Choices.antt` and `specs/Marks.antt` of the crate `split_laws`.
 ghost use mathlib.Core.Path.{_≡_};
 ghost use Prim.Native.Nat.{_<_};
 ghost use lib.ListN.{length};
 ghost use Rattle.timing.specs.Rules.{pairMet, InRange};
 ghost use Rattle.split_laws.specs.Split.{timeOf};
-ghost use Rattle.split_laws.specs.Table.{isLate, rowAt, flagAt};
+ghost use Rattle.split_laws.specs.Choices.{isLate, opposite, rowLaunch, rowCapture, flagAt};
 ghost use Rattle.split_laws.specs.Marks.{joined, Forced, Followed, Applied, Seeded, Settles};
 use split_laws::Change;
-use split_laws::Row;
 use timing::Pair;
 
 // A mark is 0 where nothing is known of a register's choice.
@@ -16,39 +15,27 @@ pub const EARLY: u32 = 1;
 
 pub const LATE: u32 = 2;
 
-// Choice of launch and capture, what launch's forces on capture, what capture's forces on launch.
-const ROWS: [Row; 4] = [
-    Row {
-        launch: EARLY, // early, early
-        capture: EARLY,
-        forced_capture: LATE,
-        forced_launch: LATE,
-    },
-    Row {
-        launch: EARLY, // early, late
-        capture: LATE,
-        forced_capture: EARLY,
-        forced_launch: LATE,
-    },
-    Row {
-        launch: LATE, // late, early
-        capture: EARLY,
-        forced_capture: LATE,
-        forced_launch: EARLY,
-    },
-    Row {
-        launch: LATE, // late, late
-        capture: LATE,
-        forced_capture: EARLY,
-        forced_launch: EARLY,
-    },
-];
-
-fn row_at(k: usize) -> Row
-    requires { ⌜ k < 4 ⌝ }
-    ensures { λ r. ⌜ r ≡ rowAt k ⌝ }
+// The other choice than this one.
+fn opposite(choice: u32) -> u32
+    ensures { λ r. ⌜ r ≡ opposite choice ⌝ }
 {
-    ROWS[k]
+    if choice == LATE { EARLY } else { LATE }
+}
+
+// The choice of the launch in row k; rows are early-early 0, early-late 1, late-early 2, late-late 3.
+fn launch_choice(k: usize) -> u32
+    requires { ⌜ k < 4 ⌝ }
+    ensures { λ r. ⌜ r ≡ rowLaunch k ⌝ }
+{
+    if k < 2 { EARLY } else { LATE }
+}
+
+// The choice of the capture in row k.
+fn capture_choice(k: usize) -> u32
+    requires { ⌜ k < 4 ⌝ }
+    ensures { λ r. ⌜ r ≡ rowCapture k ⌝ }
+{
+    if k % 2 == 0 { EARLY } else { LATE }
 }
 
 // The answer of two steps: a clash stays a clash, a change a change.
@@ -93,7 +80,8 @@ fn follow(marks: &mut [u32], from: usize, when: u32, to: usize, then: u32) -> Ch
     Change::Settled
 }
 
-// Row k for launch a and capture b, both ways, where the row's flag says that its choice is broken.
+// Row k for launch a and capture b, where its flag says that its choice is broken: the launch's choice forces the opposite
+// of the capture's, the capture's choice the opposite of the launch's.
 fn apply(marks: &mut [u32], a: usize, b: usize, k: usize, flag: u32) -> Change
     requires { ⌜ (a < length (now marks)) × (b < length (now marks)) × (k < 4) ⌝ }
     ensures { λ o. ⌜ Applied a b k flag (now (marks .entry)) (now (marks .exit)) o ⌝ }
@@ -101,9 +89,10 @@ fn apply(marks: &mut [u32], a: usize, b: usize, k: usize, flag: u32) -> Change
     if flag != 1 {
         return Change::Settled;
     }
-    let row = row_at(k);
-    let first = follow(marks, a, row.launch, b, row.forced_capture);
-    let second = follow(marks, b, row.capture, a, row.forced_launch);
+    let launch = launch_choice(k);
+    let capture = capture_choice(k);
+    let first = follow(marks, a, launch, b, opposite(capture));
+    let second = follow(marks, b, capture, a, opposite(launch));
     join(first, second)
 }
 
@@ -163,8 +152,7 @@ pub fn broken_flag(pair: Pair, period: u32, offset: u32, k: usize) -> u32
     requires { ⌜ k < 4 ⌝ }
     ensures { λ r. ⌜ r ≡ flagAt period offset pair k ⌝ }
 {
-    let row = row_at(k);
-    let a = time_of(offset, row.launch);
-    let b = time_of(offset, row.capture);
+    let a = time_of(offset, launch_choice(k));
+    let b = time_of(offset, capture_choice(k));
     if meets(pair, period, a, b) { 0 } else { 1 }
 }

@@ -12,7 +12,7 @@ use Rattle.buffers.specs.Over.{over}
 use Rattle.buffers.proofs.RunLaws.{run-length, run-at}
 use Rattle.list_format.specs.Lists.{pairCount, pairAt}
 use Rattle.split_laws.specs.Split.{timeOf, timings}
-use Rattle.split_laws.specs.Table.{isLate, flagAt}
+use Rattle.split_laws.specs.Choices.{isLate, flagAt}
 use Rattle.split_laws.specs.Marks.{splitOf, Flagged}
 use Rattle.split_laws.proofs.ClosureLaws.{time-of, length-splitOf, getD-splitOf}
 use Rattle.propagate.specs.Store.{flagsTo, fourAt, Recorded, Lent}

@@ -9,7 +9,7 @@ use Rattle.timing.specs.Limits.{perRegister, perPair, scratchPlaces}
 use Rattle.buffers.specs.Run.{run}
 use Rattle.list_format.specs.Lists.{pairCount, pairAt, pairs, UsableList}
 use Rattle.split_laws.specs.Split.{Found, nothing, found, firstSplit}
-use Rattle.split_laws.specs.Table.{flagAt}
+use Rattle.split_laws.specs.Choices.{flagAt}
 use Rattle.split_laws.specs.Marks.{Flagged, splitOf}
 
 -- the place from which on the flags stand

@@ -16,11 +16,11 @@ use Rattle.timing.proofs.RuleLaws.{and-true}
 use Rattle.split_laws.specs.declared.Change.{Change}
 use Rattle.split_laws.specs.declared.Change.the-variants.{Settled}
 use Rattle.split_laws.specs.Split.{nothing, found, timeOf, timings, meets, broken, works, splits, firstOf, firstSplit}
-use Rattle.split_laws.specs.Table.{mark, late, isLate, brokenRow, flag}
+use Rattle.split_laws.specs.Choices.{mark, late, isLate, brokenRow, flag}
 use Rattle.split_laws.specs.Marks.{choice, Agrees, splitOf, MarkStep, joined, Avoids, Applied, Seeded}
 use Rattle.split_laws.specs.Marks.{Flagged, keeps, Keeps, RowsClosed, MarksClosed, Settles}
 use Rattle.split_laws.proofs.FirstLaws.{NoLater, none-first, least-first}
-use Rattle.split_laws.proofs.TableLaws.{late-launch, flag-one}
+use Rattle.split_laws.proofs.ChoiceLaws.{late-launch, flag-one}
 use Rattle.split_laws.proofs.MarkLaws.{step-none, step-for, step-with, step-then}
 
 -- ---- a split works exactly where each pair keeps its rules

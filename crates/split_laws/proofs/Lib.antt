@@ -2,6 +2,6 @@
 pub mod FirstLaws
 pub mod FoundLaws
 pub mod TimingsLaws
-pub mod TableLaws
+pub mod ChoiceLaws
 pub mod MarkLaws
 pub mod ClosureLaws

@@ -1,4 +1,4 @@
--- Laws of the marks: steps one after the other, and what forcing, following and applying a row come to.
+-- Laws of the marks: steps one after the other, and what forcing, following and a broken choice come to.
 -- Every step keeps each split that has the property and agreed with the marks; a step that changes anything sets a mark,
 -- so that fewer registers are without (`unset` falls); a clash leaves no such split.
 use mathlib.Core.Path.{_≡_, refl, sym, _∙_, subst, subst⁻¹}
@@ -10,16 +10,11 @@ use native.Mathlib.Decide.{ℕ-discrete}
 use native.Mathlib.Omega.{arith}
 use lib.ListN.{length, getD, set, length-set}
 use lib.Seq.{getD-set-same, getD-set-other}
-use Rattle.split_laws.specs.declared.Row.{Row}
 use Rattle.split_laws.specs.declared.Change.{Change}
 use Rattle.split_laws.specs.declared.Change.the-variants.{Settled, Changed, Clash}
-use Rattle.split_laws.specs.Table.{mark, late, rowLaunch, rowCapture}
+use Rattle.split_laws.specs.Choices.{late, opposite, rowLaunch, rowCapture}
 use Rattle.split_laws.specs.Marks.{choice, Agrees, isZero, unset, Kept, MarkTold, MarkStep, joined, Forced, Followed, Avoids, Applied, Seeded}
-use Rattle.split_laws.proofs.TableLaws.{RowIs}
-
-mark-range : (b : Bool) → (1 ≤ mark b) × (mark b ≤ 2)
-mark-range false = omega arith
-mark-range true = omega arith
+use Rattle.split_laws.proofs.ChoiceLaws.{mark-range, opposite-sum}
 
 pub choice-range : (c : List Bool) (i : ℕ) → (1 ≤ choice c i) × (choice c i ≤ 2)
 choice-range c i = mark-range (getD c i false)
@@ -118,31 +113,34 @@ module _ (a when b then : ℕ) where
       → Followed a when b then M M′ o
   followed n e h = step-as (λ c q g. q (sym (g a (λ z. n (sym e ∙ z))) ∙ e)) (λ f _. f) h
 
--- ---- a row of the table
-
--- a choice other than v is the opposite of v
-other : (c : List Bool) (i v w : ℕ) → w + v ≡ 3 → 1 ≤ v → v ≤ 2 → (choice c i ≡ v → ⊥) → choice c i ≡ w
-other c i v w e lo hi n = omega (arith, choice-range c i)
+-- ---- a broken choice
 
 pub applied-not : (a b k f : ℕ) (M : List ℕ) → (f ≡ 1 → ⊥) → Applied a b k f M M Settled
 applied-not a b k f M n = step-none M (λ e. absurd (n e))
 
--- both halves of row k, one after the other: a split that avoids the row's choice and makes one end of it makes the
--- opposite of the other end
-pub applied : {a b k f : ℕ} {r : Row} {M M′ M″ : List ℕ} {o o′ o″ : Change} → k < 4 → f ≡ 1 → RowIs k r → o″ ≡ joined o o′ →
-    Followed a (r .launch) b (r .«forced_capture») M M′ o → Followed b (r .capture) a (r .«forced_launch») M′ M″ o′
-    → Applied a b k f M M″ o″
-applied {a} {b} {k} {f} {r} l e1 is e h h′ =
-    rw e
-    (step-as (λ c q g. q e1)
-    (λ x _. (λ z. rw (x .0 (z ∙ sym (is .launch-is))) (is .forced-capture), λ z. rw (x .1 (z ∙ sym (is .capture-is))) (is .forced-launch)))
-    (step-then (step-for ahead h) (step-for back h′)))
-  where
-    ahead : (c : List Bool) → Avoids a b k c → choice c a ≡ r .launch → choice c b ≡ r .«forced_capture»
-    ahead c q x = other c b (rowCapture k) (r .«forced_capture») (is .forced-capture) (omega arith) (omega arith) (q (x ∙ is .launch-is))
+-- a choice other than v is the opposite of v
+other : (c : List Bool) (i v : ℕ) → 1 ≤ v → v ≤ 2 → (choice c i ≡ v → ⊥) → choice c i ≡ opposite v
+other c i v lo hi n = omega (arith, choice-range c i, opposite-sum v lo hi)
 
-    back : (c : List Bool) → Avoids a b k c → choice c b ≡ r .capture → choice c a ≡ r .«forced_launch»
-    back c q x = other c a (rowLaunch k) (r .«forced_launch») (is .forced-launch) (omega arith) (omega arith) (λ z. q z (x ∙ is .capture-is))
+-- The choice of row k is broken, x at launch a and y at capture b: x forces the opposite of y, and y that of x.
+-- A split that avoids the row's choice and makes it at one end makes the opposite at the other.
+module _ (a b k : ℕ) (l : k < 4) where
+  ahead : (c : List Bool) → Avoids a b k c → choice c a ≡ rowLaunch k → choice c b ≡ opposite (rowCapture k)
+  ahead c q x = other c b (rowCapture k) (omega arith) (omega arith) (q x)
+
+  back : (c : List Bool) → Avoids a b k c → choice c b ≡ rowCapture k → choice c a ≡ opposite (rowLaunch k)
+  back c q y = other c a (rowLaunch k) (omega arith) (omega arith) (λ x. q x y)
+
+  pub applied : {x y x′ y′ f : ℕ} {M M′ M″ : List ℕ} {o o′ o″ : Change} → x ≡ rowLaunch k → y ≡ rowCapture k → x′ ≡ opposite x → y′ ≡ opposite y →
+      f ≡ 1 → o″ ≡ joined o o′ → Followed a x b y′ M M′ o → Followed b y a x′ M′ M″ o′ → Applied a b k f M M″ o″
+  applied ex ey ex′ ey′ e1 e h h′ =
+      rw e
+      (step-as (λ c q g. q e1)
+      (λ z _. (
+        λ at-a. rw (z .0 at-a) (opposite-sum (rowCapture k) (omega arith) (omega arith)),
+        λ at-b. rw (z .1 at-b) (opposite-sum (rowLaunch k) (omega arith) (omega arith)),
+      ))
+      (step-then (step-for ahead (rw (ey′, ex, ey) at h)) (step-for back (rw (ex′, ex, ey) at h′))))
 
 pub seeded-not : (b f : ℕ) (M : List ℕ) → (f ≡ 1 → ⊥) → Seeded b f M M Settled
 seeded-not b f M n = step-none M (λ e. absurd (n e))

@@ -1,4 +1,4 @@
 -- The definitions, which the contracts of other crates cite.
 pub mod Split
-pub mod Table
+pub mod Choices
 pub mod Marks

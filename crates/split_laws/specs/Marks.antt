@@ -10,7 +10,7 @@ use Rattle.timing.specs.declared.Pair.{Pair}
 use Rattle.split_laws.specs.declared.Change.{Change}
 use Rattle.split_laws.specs.declared.Change.the-variants.{Settled, Changed, Clash}
 use Rattle.split_laws.specs.Split.{meets}
-use Rattle.split_laws.specs.Table.{mark, isLate, late, rowLaunch, rowCapture, brokenRow, flagAt}
+use Rattle.split_laws.specs.Choices.{mark, isLate, late, rowLaunch, rowCapture, brokenRow, flagAt}
 
 -- a split's choice for a register, as a mark
 abbrev pub choice : List Bool → ℕ → ℕ

@@ -7,11 +7,3 @@ pub enum Change {
     Changed,
     Clash,
 }
-
-// A choice of launch and capture, as marks, and what each end forces on the other where that choice breaks a rule.
-pub struct Row {
-    pub launch: u32,
-    pub capture: u32,
-    pub forced_capture: u32,
-    pub forced_launch: u32,
-}

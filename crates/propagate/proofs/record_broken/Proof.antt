@@ -8,7 +8,7 @@ use lib.ListN.{length}
 use Rattle.buffers.proofs.FillLaws.{Filling, filled-none, filling-start, filling-size, filling-end, filling-turn, set-put}
 use Rattle.timing.specs.Limits.{perPair}
 use Rattle.list_format.specs.Lists.{pairAt}
-use Rattle.split_laws.specs.Table.{flagAt}
+use Rattle.split_laws.specs.Choices.{flagAt}
 use Rattle.list_format.proofs.ListLaws.{pair-in}
 use borrow.Author.Needs.{needs}
 use Rattle.propagate.proofs.record_broken.Statement.{statement}

@@ -8,7 +8,7 @@ use native.Mathlib.Omega.{arith}
 use lib.ListN.{length, getD}
 use Rattle.buffers.proofs.FillLaws.{Filling, filled-none, filling-start, filling-size, filling-end, filling-turn, set-put}
 use Rattle.split_laws.specs.Split.{timeOf}
-use Rattle.split_laws.specs.Table.{isLate}
+use Rattle.split_laws.specs.Choices.{isLate}
 use Rattle.propagate.proofs.StoreLaws.{timings-run}
 use borrow.Author.Needs.{needs}
 use Rattle.propagate.proofs.write_split.Statement.{statement}

@@ -1,11 +1,8 @@
--- The table of four rows: for each choice of launch and capture, what each end forces on the other where that choice breaks a rule.
-use mathlib.Core.List.{List, [], _∷_}
-use mathlib.Core.Bool.{Bool, true, false}
+-- Choices as marks; the four choices of a launch and a capture, each by the number of its row, and which of them break a rule.
+use mathlib.Core.Bool.{Bool, true, false, not}
 use Prim.Native.Nat.{ℕ, _+_, _/_, _%_}
 use lib.Dec.{eqb}
-use lib.ListN.{getD}
 use Rattle.timing.specs.declared.Pair.{Pair}
-use Rattle.split_laws.specs.declared.Row.{Row}
 use Rattle.split_laws.specs.Split.{broken}
 
 -- a choice as a mark; a mark of 0 says that a register's choice is not known
@@ -22,22 +19,11 @@ mark true = late
 abbrev pub isLate : ℕ → Bool
 isLate x = eqb x late
 
--- choice of launch, choice of capture, what launch's forces on capture, what capture's forces on launch
-abbrev pub row : ℕ → ℕ → ℕ → ℕ → Row
-row a b forcedCapture forcedLaunch = record { launch = a; capture = b; «forced_capture» = forcedCapture; «forced_launch» = forcedLaunch }
+-- the other choice
+abbrev pub opposite : ℕ → ℕ
+opposite x = mark (not (isLate x))
 
-unfoldable pub rowTable : List Row
-rowTable =
-    row early early late late
-    ∷ row early late early late
-    ∷ row late early late early
-    ∷ row late late early early
-    ∷ []
-
-abbrev pub rowAt : ℕ → Row
-rowAt k = getD rowTable k (row 0 0 0 0)
-
--- the choices of row k
+-- the choices of row k: rows are early-early 0, early-late 1, late-early 2, late-late 3
 abbrev pub rowLaunch : ℕ → ℕ
 rowLaunch k = 1 + k / 2
 
