@@ -1,11 +1,11 @@
 // The marks of the registers, and what the broken choices of one pair force on them.
 // The contracts cite `specs/Choices.antt` and `specs/Marks.antt` of the crate `split_laws`.
 ghost use mathlib.Core.Path.{_≡_};
-ghost use Prim.Native.Nat.{_<_};
+ghost use Prim.Native.Nat.{_≤_, _<_};
 ghost use lib.ListN.{length};
 ghost use Rattle.timing.specs.Rules.{pairMet, InRange};
 ghost use Rattle.split_laws.specs.Split.{timeOf};
-ghost use Rattle.split_laws.specs.Choices.{isLate, opposite, rowLaunch, rowCapture, flagAt};
+ghost use Rattle.split_laws.specs.Choices.{late, isLate, opposite, rowLaunch, rowCapture, flagAt};
 ghost use Rattle.split_laws.specs.Marks.{joined, Forced, Followed, Applied, Seeded, Settles};
 use split_laws::Change;
 use timing::Pair;
@@ -15,11 +15,12 @@ pub const EARLY: u32 = 1;
 
 pub const LATE: u32 = 2;
 
-// The other choice than this one.
+// The other choice: late for early, early for late.
 fn opposite(choice: u32) -> u32
+    requires { ⌜ choice ≤ late ⌝ }
     ensures { λ r. ⌜ r ≡ opposite choice ⌝ }
 {
-    if choice == LATE { EARLY } else { LATE }
+    EARLY + LATE - choice
 }
 
 // The choice of the launch in row k; rows are early-early 0, early-late 1, late-early 2, late-late 3.

@@ -1,30 +1,13 @@
--- A choice and its opposite; what is known of a pair where one of its four choices breaks a rule.
+-- What is known of a pair where one of its four choices breaks a rule.
 use mathlib.Core.Path.{_≡_, refl}
 use mathlib.Core.Bool.{Bool, true, false, not}
-use Prim.Native.Nat.{ℕ, zero, suc, _+_, _≤_}
+use Prim.Native.Nat.{ℕ}
 use native.Mathlib.Omega.{arith}
 use Rattle.timing.specs.declared.Pair.{Pair}
 use Rattle.timing.specs.Rules.{pairMet}
 use Rattle.timing.proofs.RuleLaws.{test→met, met→test}
 use Rattle.split_laws.specs.Split.{timeOf, meets}
-use Rattle.split_laws.specs.Choices.{mark, isLate, opposite, rowLaunch, rowCapture, brokenRow, flag, flagAt}
-
-pub mark-range : (b : Bool) → (1 ≤ mark b) × (mark b ≤ 2)
-mark-range false = omega arith
-mark-range true = omega arith
-
--- an opposite is a choice
-pub opposite-set : (x : ℕ) → opposite x ≡ 0 → ⊥
-opposite-set x e = omega (arith, mark-range (not (isLate x)))
-
--- a choice and its opposite are early and late
-pub opposite-sum : (x : ℕ) → 1 ≤ x → x ≤ 2 → opposite x + x ≡ 3
-opposite-sum zero lo hi = absurd (omega arith)
-opposite-sum (suc zero) lo hi = refl
-opposite-sum (suc (suc zero)) lo hi = refl
-opposite-sum (suc (suc (suc x))) lo hi = absurd (omega arith)
-
--- ---- broken choices of a pair
+use Rattle.split_laws.specs.Choices.{isLate, rowLaunch, rowCapture, brokenRow, flag, flagAt}
 
 module _ (t s : ℕ) (p : Pair) where
   -- a late launch makes setup no easier: where early, early is broken, so is late, early

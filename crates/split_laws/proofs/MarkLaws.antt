@@ -12,9 +12,12 @@ use lib.ListN.{length, getD, set, length-set}
 use lib.Seq.{getD-set-same, getD-set-other}
 use Rattle.split_laws.specs.declared.Change.{Change}
 use Rattle.split_laws.specs.declared.Change.the-variants.{Settled, Changed, Clash}
-use Rattle.split_laws.specs.Choices.{late, opposite, rowLaunch, rowCapture}
+use Rattle.split_laws.specs.Choices.{mark, late, opposite, rowLaunch, rowCapture}
 use Rattle.split_laws.specs.Marks.{choice, Agrees, isZero, unset, Kept, MarkTold, MarkStep, joined, Forced, Followed, Avoids, Applied, Seeded}
-use Rattle.split_laws.proofs.ChoiceLaws.{mark-range, opposite-sum}
+
+mark-range : (b : Bool) → (1 ≤ mark b) × (mark b ≤ 2)
+mark-range false = omega arith
+mark-range true = omega arith
 
 pub choice-range : (c : List Bool) (i : ℕ) → (1 ≤ choice c i) × (choice c i ≤ 2)
 choice-range c i = mark-range (getD c i false)
@@ -120,7 +123,7 @@ applied-not a b k f M n = step-none M (λ e. absurd (n e))
 
 -- a choice other than v is the opposite of v
 other : (c : List Bool) (i v : ℕ) → 1 ≤ v → v ≤ 2 → (choice c i ≡ v → ⊥) → choice c i ≡ opposite v
-other c i v lo hi n = omega (arith, choice-range c i, opposite-sum v lo hi)
+other c i v lo hi n = omega (arith, choice-range c i)
 
 -- The choice of row k is broken, x at launch a and y at capture b: x forces the opposite of y, and y that of x.
 -- A split that avoids the row's choice and makes it at one end makes the opposite at the other.
@@ -135,11 +138,7 @@ module _ (a b k : ℕ) (l : k < 4) where
       f ≡ 1 → o″ ≡ joined o o′ → Followed a x b y′ M M′ o → Followed b y a x′ M′ M″ o′ → Applied a b k f M M″ o″
   applied ex ey ex′ ey′ e1 e h h′ =
       rw e
-      (step-as (λ c q g. q e1)
-      (λ z _. (
-        λ at-a. rw (z .0 at-a) (opposite-sum (rowCapture k) (omega arith) (omega arith)),
-        λ at-b. rw (z .1 at-b) (opposite-sum (rowLaunch k) (omega arith) (omega arith)),
-      ))
+      (step-as (λ c q g. q e1) (λ z _. (λ at-a. rw (z .0 at-a) (omega arith), λ at-b. rw (z .1 at-b) (omega arith)))
       (step-then (step-for ahead (rw (ey′, ex, ey) at h)) (step-for back (rw (ex′, ex, ey) at h′))))
 
 pub seeded-not : (b f : ℕ) (M : List ℕ) → (f ≡ 1 → ⊥) → Seeded b f M M Settled

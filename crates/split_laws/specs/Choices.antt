@@ -1,6 +1,6 @@
 -- Choices as marks; the four choices of a launch and a capture, each by the number of its row, and which of them break a rule.
-use mathlib.Core.Bool.{Bool, true, false, not}
-use Prim.Native.Nat.{ℕ, _+_, _/_, _%_}
+use mathlib.Core.Bool.{Bool, true, false}
+use Prim.Native.Nat.{ℕ, _+_, _-_, _/_, _%_}
 use lib.Dec.{eqb}
 use Rattle.timing.specs.declared.Pair.{Pair}
 use Rattle.split_laws.specs.Split.{broken}
@@ -19,9 +19,9 @@ mark true = late
 abbrev pub isLate : ℕ → Bool
 isLate x = eqb x late
 
--- the other choice
+-- the other choice: late for early, early for late
 abbrev pub opposite : ℕ → ℕ
-opposite x = mark (not (isLate x))
+opposite x = early + late - x
 
 -- the choices of row k: rows are early-early 0, early-late 1, late-early 2, late-late 3
 abbrev pub rowLaunch : ℕ → ℕ

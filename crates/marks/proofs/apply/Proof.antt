@@ -1,21 +1,9 @@
 -- `apply`: where its flag is 1, what a row's choice forces is followed from launch to capture, then from capture to launch:
 -- at each end the opposite of its own choice, by the other end's; the two steps make one (`applied`).
-use Rattle.split_laws.proofs.ChoiceLaws.{opposite-set}
 use Rattle.split_laws.proofs.MarkLaws.{applied}
 use borrow.Author.Needs.{needs}
 use Rattle.marks.proofs.apply.Statement.{statement}
 use Rattle.marks.proofs.apply.Tie as tie
-
-follow-requires : tie.Need-follow-requires
-follow-requires c κs =
-    let set = opposite-set (c .before .before .capture-choice .result) in
-    search needs
-
-follow-requires-2 : tie.Need-follow-requires-2
-follow-requires-2 c κs =
-    let row = c .before .before .before .before .before .before .before in
-    let set = opposite-set (row .before .launch-choice .result) in
-    search needs
 
 returns-2 : tie.Need-returns-2
 returns-2 c =
@@ -31,5 +19,5 @@ returns-2 c =
 pub apply-spec : {M : Type 1} → statement M
 apply-spec =
     tie.close
-    (tie.spec (λ c. search needs) (λ c κs. search needs) (λ c κs. search needs) (λ c κs. search needs) follow-requires (λ c κs. search needs)
-    follow-requires-2 (λ c κs. search needs) (λ c. search needs) returns-2)
+    (tie.spec (λ c. search needs) (λ c κs. search needs) (λ c κs. search needs) (λ c κs. search needs) (λ c κs. search needs)
+    (λ c κs. search needs) (λ c κs. search needs) (λ c κs. search needs) (λ c. search needs) returns-2)
