@@ -94,18 +94,21 @@ module _ (f : ℕ → List Check) (after : List Check) (m : ℕ) where
       let e : m - k ≡ suc (m - (k + 1)) = omega arith in
       rw e (append-assoc (f k) (eachCheck f (k + 1) (m - (k + 1))) after)
 
-  module _ {k : ℕ} (w : Remaining k) where
-    pub remaining-turn : k < m → firstFault (f k) ≡ None → Remaining (k + 1)
-    remaining-turn h e = record { bound = omega arith; same = w .same ∙ ap firstFault (one-more k h) ∙ pass-first (f k) (left (k + 1)) e }
+  -- x is the fault that is found then: of thing k, or after all of them
+  module _ {k : ℕ} (w : Remaining k) {x : Fault} where
+    pub remaining-turn : k < m → x ≡ firstFault (f k) → x ≡ None → Remaining (k + 1)
+    remaining-turn h e none =
+        record { bound = omega arith; same = w .same ∙ ap firstFault (one-more k h) ∙ pass-first (f k) (left (k + 1)) (sym e ∙ none) }
 
-    pub remaining-stops : k < m → {number place : ℕ} → firstFault (f k) ≡ At number place → firstFault (eachCheck f 0 m ++ after) ≡ At number place
-    remaining-stops h e = w .same ∙ ap firstFault (one-more k h) ∙ stop-first (f k) (left (k + 1)) e
+    pub remaining-stops : k < m → x ≡ firstFault (f k) → {number place : ℕ} → x ≡ At number place
+        → At number place ≡ firstFault (eachCheck f 0 m ++ after)
+    remaining-stops h e at = sym (w .same ∙ ap firstFault (one-more k h) ∙ stop-first (f k) (left (k + 1)) (sym e ∙ at))
 
-    pub remaining-end : m ≤ k → firstFault (eachCheck f 0 m ++ after) ≡ firstFault after
+    pub remaining-end : m ≤ k → x ≡ firstFault after → x ≡ firstFault (eachCheck f 0 m ++ after)
     unfolding eachCheck
-    remaining-end h =
+    remaining-end h e =
         let z : m - k ≡ 0 = omega arith in
-        w .same ∙ rw z
+        e ∙ sym (w .same ∙ rw z)
 
 -- all pass exactly if each does
 each-passes : (f : ℕ → List Check) (i k : ℕ) → firstFault (eachCheck f i k) ≡ None → (j : ℕ) → j < k → firstFault (f (i + j)) ≡ None

@@ -3,7 +3,6 @@
 use Prim.Native.Nat.{_-_}
 use mathlib.Core.Bool.{_&&_}
 use mathlib.Core.List.{[], _∷_}
-use mathlib.Core.Path.{sym, _∙_}
 use native.Mathlib.Omega.{arith}
 use lib.Dec.{ltb}
 use Rattle.refusals.proofs.CheckLaws.{Remaining, remaining-start, remaining-turn, remaining-stops, remaining-end}
@@ -18,27 +17,12 @@ Inv-loop words needs r₀ r = Remaining (needChecks words) ((ltb 0 needs && noNe
 abbrev μ-loop : tie.MeasureT-loop
 μ-loop words needs r₀ r = needs - r
 
-loop-holds : tie.Need-loop-holds Inv-loop μ-loop
-loop-holds c = remaining-start _ _ _
-
-returns : tie.Need-returns Inv-loop μ-loop
-returns c =
-    let at = c .before .before .before .before .before .loop in
-    sym (remaining-stops _ _ _ (at .inv) (omega arith) (sym (c .before .before .before .need-fault .ensures) ∙ c .before .found .given .1))
-
-loop-again : tie.Need-loop-again Inv-loop μ-loop
-loop-again c =
-    let at = c .before .before .before .before .loop in
-    remaining-turn _ _ _ (at .inv) (omega arith) (sym (c .before .before .need-fault .ensures) ∙ c .enum-told .given .1)
-
-returns-2 : tie.Need-returns-2 Inv-loop μ-loop
-returns-2 c =
-    let at = c .before .before .loop in
-    c .zero-fault .ensures ∙ sym (remaining-end _ _ _ (at .inv) (omega arith))
-
 pub needs-fault-spec : {M : Type 1} → statement M
 needs-fault-spec =
     tie.close
     (tie.spec
-    Inv-loop μ-loop loop-holds (λ c κs. search needs) (λ c. search needs) returns (λ c. search needs)
-    (λ c. search needs) (λ c. search needs) loop-again (λ c κs. search needs) returns-2)
+    Inv-loop μ-loop (λ c. remaining-start _ _ _) (λ c κs. search needs) (λ c. search needs)
+    (λ c. remaining-stops _ _ _ (c .before .before .before .before .before .loop .inv) (omega arith) (c .before .before .before .need-fault .ensures) (c .before .found .given .1))
+    (λ c. search needs) (λ c. search needs) (λ c. search needs)
+    (λ c. remaining-turn _ _ _ (c .before .before .before .before .loop .inv) (omega arith) (c .before .before .need-fault .ensures) (c .enum-told .given .1))
+    (λ c κs. search needs) (λ c. remaining-end _ _ _ (c .before .before .loop .inv) (omega arith) (c .zero-fault .ensures)))

@@ -22,12 +22,12 @@ loop-holds c = remaining-start _ _ _
 returns : tie.Need-returns Inv-loop μ-loop
 returns c =
     let at = c .before .before .before .before .before .loop in
-    sym (remaining-stops _ _ _ (at .inv) (omega arith) (sym (c .before .before .before .pair-fault .ensures) ∙ c .before .found .given .1))
+    remaining-stops _ _ _ (at .inv) (omega arith) (c .before .before .before .pair-fault .ensures) (c .before .found .given .1)
 
 loop-again : tie.Need-loop-again Inv-loop μ-loop
 loop-again c =
     let at = c .before .before .before .before .loop in
-    remaining-turn _ _ _ (at .inv) (omega arith) (sym (c .before .before .pair-fault .ensures) ∙ c .enum-told .given .1)
+    remaining-turn _ _ _ (at .inv) (omega arith) (c .before .before .pair-fault .ensures) (c .enum-told .given .1)
 
 pair-place-requires : tie.Need-pair-place-requires Inv-loop μ-loop
 pair-place-requires c κs = omega (arith, needs-few (c .before .before .before .args .words .now))
@@ -36,7 +36,7 @@ returns-2 : tie.Need-returns-2 Inv-loop μ-loop
 returns-2 c =
     let at = c .before .before .before .loop in
     let start = c .before .before .before .before .before in
-    rw (c .end-fault .ensures, c .before .pair-place .ensures, start .pre .0) (sym (remaining-end _ _ _ (at .inv) (omega arith)))
+    remaining-end _ _ _ (at .inv) (omega arith) (rw (c .before .pair-place .ensures, start .pre .0) at (c .end-fault .ensures))
 
 pub pairs-fault-spec : {M : Type 1} → statement M
 pairs-fault-spec =

@@ -26,23 +26,23 @@ loop-holds c = remaining-start _ _ _
 returns : tie.Need-returns Inv-loop μ-loop
 returns c =
     let at = c .before .before .before .before .before .before .before .loop in
-    let found = sym (c .before .before .before .value-fault .ensures) ∙ c .before .found .given .1 in
-    sym (remaining-stops _ _ _ (at .inv) (omega arith)
-    (rw (c .before .before .before .before .given-hold .ensures, c .before .before .before .before .before .given-pair .ensures) at found))
+    let v = c .before .before .before in
+    remaining-stops _ _ _ (at .inv) (omega arith)
+    (rw (v .before .given-hold .ensures, v .before .before .given-pair .ensures) at (v .value-fault .ensures)) (c .before .found .given .1)
 
 loop-again : tie.Need-loop-again Inv-loop μ-loop
 loop-again c =
     let at = c .before .before .before .before .before .before .loop in
-    let found = sym (c .before .before .value-fault .ensures) ∙ c .enum-told .given .1 in
+    let v = c .before .before in
     remaining-turn _ _ _ (at .inv) (omega arith)
-    (rw (c .before .before .before .given-hold .ensures, c .before .before .before .before .given-pair .ensures) at found)
+    (rw (v .before .given-hold .ensures, v .before .before .given-pair .ensures) at (v .value-fault .ensures)) (c .enum-told .given .1)
 
 returns-2 : tie.Need-returns-2 Inv-loop μ-loop
 unfolding orCheck faultAfter
 returns-2 c =
     let at = c .before .before .before .loop in
     let s = c .before .before .before .before .before .before in
-    rw (c .or .ensures, c .before .pair-place .ensures, s .pre .0) (sym (remaining-end _ _ _ (at .inv) (omega arith)))
+    remaining-end _ _ _ (at .inv) (omega arith) (rw (c .before .pair-place .ensures, s .pre .0) at (c .or .ensures))
 
 pub pairs-fault-spec : {M : Type 1} → statement M
 pairs-fault-spec =
