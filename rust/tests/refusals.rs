@@ -83,12 +83,10 @@ fn a_number_of_no_call() {
     assert_eq!(made_up.to_string(), "refused 99 at 7: no call is refused with this number");
 }
 
-/// The rows of `meanings` in the definition of what the programs print: `(11, " the count ..\n")`.
-fn meanings() -> Vec<(u32, String)> {
-    let file = Path::new(env!("CARGO_MANIFEST_DIR")).join("../crates/refusal_text/specs/RefusalText.antt");
-    let text = std::fs::read_to_string(file).expect("the definition of the lines of a refusal");
-    let (_, from) = text.split_once("\nmeanings =\n").expect("the rows of `meanings`");
-    let (rows, _) = from.split_once("[]").expect("the end of `meanings`");
+/// The rows of a list of meanings in the definition of what the programs print: `(11, " the count ..\n")`.
+fn meanings(text: &str, name: &str) -> Vec<(u32, String)> {
+    let (_, from) = text.split_once(&format!("\n{name} =\n")).expect(name);
+    let (rows, _) = from.split_once("[]").expect("the end of the rows");
     let row = |line: &str| {
         let (number, rest) = line.split_once('(')?.1.split_once(", \" ")?;
         Some((number.parse().ok()?, rest.split_once("\\n\")")?.0.to_string()))
@@ -99,8 +97,10 @@ fn meanings() -> Vec<(u32, String)> {
 /// The programs say "a buffer" for 1 and 2; here it is known which. The rows from 31 on are the causes of a 3, which they know.
 #[test]
 fn the_words_of_the_programs() {
-    let rows = meanings();
-    assert!(rows.len() >= 8, "{rows:?}");
+    let file = Path::new(env!("CARGO_MANIFEST_DIR")).join("../crates/refusal_text/specs/RefusalText.antt");
+    let text = std::fs::read_to_string(file).expect("the definition of the lines of a refusal");
+    let rows: Vec<_> = ["listMeanings", "pairMeanings", "callMeanings"].iter().flat_map(|name| meanings(&text, name)).collect();
+    assert_eq!(rows.len(), 14, "{rows:?}");
     for (number, words) in rows.into_iter().filter(|(number, _)| (3..31).contains(number)) {
         assert_eq!(Refusal { number, place: 0 }.meaning(), words);
     }

@@ -1,22 +1,21 @@
 -- The words that were counted in, at the front of a buffer, are a list of the same registers and the same pairs.
 -- Each pair fits its words, so it is read from them as it was (`written-is`). The second word, that of a pair, is none of needs: nothing
 -- is counted in twice (`pair-is`).
-use Prim.Native.Nat.{ℕ, zero, suc, _+_, _*_, _^_, _<_, _≤_}
-use mathlib.Core.List.{List, [], _∷_, _++_}
+use Prim.Native.Nat.{ℕ, zero, suc, _+_, _*_, _<_, _≤_}
+use mathlib.Core.List.{List}
 use mathlib.Core.Path.{_≡_, refl, sym, _∙_, ap}
 use mathlib.Core.Bool.{Bool, true, false, cond}
 use native.Mathlib.Omega.{arith}
 use lib.Dec.{eqb}
-use lib.ListN.{length, getD, drop, length-append, length-drop, List·getD-append}
-use Rattle.timing.specs.Limits.{maxRegisters, maxPairs, maxPeriod}
+use lib.ListN.{length, getD, List·getD-append}
+use Rattle.timing.specs.Limits.{maxPairs}
 use Rattle.words.specs.Word.{kindLeast, kindGreatest, kindNeeds, kindOf, pairWord}
 use Rattle.words.proofs.WordLaws.{pair-of-word, payload-of-word}
-use Rattle.buffers.specs.Run.{run}
 use Rattle.buffers.specs.Over.{over}
 use Rattle.buffers.proofs.FillLaws.{filled-size}
 use Rattle.buffers.proofs.RunLaws.{run-length, run-at}
-use Rattle.list_format.specs.Lists.{word, registers, pairCount, needWords, needWordsBy, holdAt, placeBy, pairPlace, writtenAt, countingNeeds, pairAt}
-use Rattle.list_format.specs.Lists.{pairsFrom, pairs, firstNeeds, ValuesIn, IsUsable, UsableList, PairIn}
+use Rattle.list_format.specs.Lists.{word, registers, pairCount, needWords, needWordsBy, placeBy, writtenAt, pairAt}
+use Rattle.list_format.specs.Lists.{pairsFrom, pairs, firstNeeds, IsUsable, UsableList, PairIn}
 use Rattle.list_format.specs.Write.{FitsWords, threeOf}
 use Rattle.list_format.proofs.ListLaws.{none-below}
 use Rattle.list_format.proofs.NeedsLaws.{hold-none, counting-none}

@@ -1,7 +1,6 @@
 // Raises along parents: each register as the rule that raised it last asks, the register that the rule starts from before it.
 // The parents are a hint, kept from period to period: each rule is looked up in the list before it raises anything.
 ghost use mathlib.Core.Path.{_≡_};
-ghost use lib.ListN.{length};
 ghost use Rattle.timing.specs.Limits.{maxTiming};
 ghost use Rattle.list_format.specs.Lists.{pairCount, pairs, IsUsable, UsableList};
 ghost use Rattle.free_laws.specs.Constraint.{constraints, Bound};

@@ -2,7 +2,7 @@
 // longer periods, and from the common period down where they do not come to an end soon.
 // The contracts cite `specs/Climbed.antt` and the laws of `free_laws`.
 ghost use mathlib.Core.Path.{_≡_};
-ghost use Prim.Native.Nat.{_-_, _≤_, _<_, max};
+ghost use Prim.Native.Nat.{_-_, _≤_, _<_};
 ghost use lib.ListN.{length};
 ghost use Rattle.list_format.specs.Lists.{pairCount, pairs, IsUsable, UsableList};
 ghost use Rattle.free_laws.specs.Free.{common as commonOf};

@@ -2,8 +2,8 @@
 use Prim.Native.Nat.{ℕ, _*_, _≤_, _<_}
 use mathlib.Core.List.{List}
 use mathlib.Core.Path.{_≡_}
-use Rattle.timing.specs.Limits.{maxRegisters, maxPeriod}
-use Rattle.list_format.specs.Lists.{registers, pairCount, pairs, IsUsable}
+use Rattle.timing.specs.Limits.{maxPeriod}
+use Rattle.list_format.specs.Lists.{registers, pairs}
 use Rattle.free_laws.specs.Constraint.{Adds}
 use Rattle.free_cycles.specs.declared.Trail.{Trail}
 

@@ -7,7 +7,6 @@ ghost use Rattle.list_format.specs.Lists.{registers, pairs, UsableList};
 ghost use Rattle.free_laws.specs.Constraint.{Bound};
 ghost use Rattle.free_cycles.specs.Tracing.{Traced, Further};
 use free_rounds::PARENTS;
-use timing::Pair;
 
 // A trail back along rules, from the register `start` to the register `at`: what the rules ask for, what they leave,
 // and how many of them are setup.

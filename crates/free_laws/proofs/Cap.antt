@@ -9,9 +9,9 @@ use native.Mathlib.Omega.{arith}
 use lib.ListN.{length, set}
 use lib.Seq.{set-getD}
 use Rattle.timing.specs.declared.Pair.{Pair}
-use Rattle.timing.specs.Rules.{time, Each, InRange}
+use Rattle.timing.specs.Rules.{time, InRange}
 use Rattle.free_laws.specs.Constraint.{Constraint, Meets, setup, hold, Below}
-use Rattle.free_laws.specs.Raise.{ask, Attained, Round, Capped, raiseTo, relaxTo}
+use Rattle.free_laws.specs.Raise.{ask, Attained, Capped, raiseTo, relaxTo}
 use Rattle.free_laws.proofs.Sweep.{set-below, attained-more, Obeyed, obeyed}
 
 pub raise-capped : (c r v : ℕ) (x : List ℕ) → Capped c x → Capped c (raiseTo c r v x)

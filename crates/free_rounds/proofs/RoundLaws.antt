@@ -3,7 +3,7 @@
 -- (`turned`). What a pair has attained stays attained as times rise further (`reached-more`). After a turn for each place, up or
 -- down, every rule has what it asked of the times at the start: that is a round (`part-end`).
 use Prim.Native.Nat.{ℕ, _+_, _-_, _≤_, _<_, zero-le}
-use mathlib.Core.Bool.{Bool, true, false}
+use mathlib.Core.Bool.{Bool}
 use mathlib.Core.List.{List}
 use mathlib.Core.Path.{_≡_, refl, ap, sym, _∙_, subst}
 use native.Mathlib.Nat.{le-refl, le-trans, add-zero}
@@ -17,7 +17,7 @@ use Rattle.list_format.specs.Lists.{pairCount, pairAt, pairs, PairIn, IsPair, p
 use Rattle.list_format.proofs.ListLaws.{few-registers, few-pairs, pair-in, each-pair, pair-holds, each-place, still-usable}
 use Rattle.free_laws.proofs.ConstraintList as rule-list
 use Rattle.free_laws.specs.Constraint.{Constraint, Meets, setup, hold, constraints, Below}
-use Rattle.free_laws.specs.Raise.{ask, Attained, Capped, raiseTo, relaxTo, Risen, RoundTo}
+use Rattle.free_laws.specs.Raise.{ask, Attained, raiseTo, relaxTo, Risen, RoundTo}
 use Rattle.free_laws.proofs.ConstraintList.{each-rule}
 use Rattle.free_laws.proofs.Sweep.{attained-more}
 use Rattle.free_laws.proofs.Cycle.{Among}

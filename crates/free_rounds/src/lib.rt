@@ -1,7 +1,7 @@
 // Raises a schedule as far as the rules of a delay list ask, one round over the pairs at a time, in place.
 // The contracts cite `specs/Raise.antt` and the laws of `free_laws`.
 ghost use mathlib.Core.Path.{_≡_};
-ghost use Prim.Native.Nat.{_-_, _≤_, _<_, min};
+ghost use Prim.Native.Nat.{_-_, _≤_, _<_};
 ghost use lib.ListN.{length};
 ghost use Rattle.timing.specs.Limits.{maxPeriod, maxTiming};
 ghost use Rattle.list_format.specs.Lists.{pairs};

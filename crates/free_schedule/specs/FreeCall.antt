@@ -7,7 +7,7 @@ use lib.ListN.{length, take}
 use Rattle.buffers.specs.Over.{over}
 use Rattle.refusals.specs.Checks.{Check}
 use Rattle.refusals.specs.Reply.{Reply, refusal, numbers, Outcome, done, replyOf, bufferAfter, answered}
-use Rattle.list_format.specs.Lists.{registers, pairCount, pairs, listChecks, UsableList}
+use Rattle.list_format.specs.Lists.{registers, pairs, listChecks, UsableList}
 use Rattle.free_laws.specs.Free.{common, freePeriod, freeSchedule}
 use Rattle.free_laws.specs.Unbeaten.{UnbeatenFree}
 use Rattle.checker.specs.Check.{Passes}

@@ -1,16 +1,15 @@
 -- What it means for a list to be accepted, fact by fact, and what follows for its pairs.
-use Prim.Native.Nat.{ℕ, zero, suc, _+_, _*_, _-_, _%_, _^_, _<_, _≤_}
+use Prim.Native.Nat.{ℕ, zero, suc, _+_, _-_, _%_, _^_, _<_, _≤_}
 use mathlib.Core.Bool.{Bool, true, false, not, cond, _&&_}
-use mathlib.Core.List.{List, [], _∷_, _++_}
-use mathlib.Core.Logic.{_⊎_, inl, inr}
-use mathlib.Core.Path.{_≡_, refl, sym, _∙_, ap}
+use mathlib.Core.List.{List, _++_}
+use mathlib.Core.Path.{_≡_, refl, _∙_, ap}
 use native.Mathlib.Omega.{arith}
 use lib.Dec.{ltb, eqb}
 use lib.ListN.{length, take}
-use borrow.Author.Tests.{ltb-true, ltb-false, lt-ltb, le-ltb, leb-false, lt-leb, eqb-true, eqb-false, eq-eqb, ne-eqb, not-false}
+use borrow.Author.Tests.{ltb-true, ltb-false, le-ltb, leb-false, lt-leb, eqb-true, eqb-false, eq-eqb, ne-eqb, not-false}
 use Rattle.timing.specs.declared.Pair.{Pair}
 use Rattle.timing.specs.Rules.{Each, InRange}
-use Rattle.timing.specs.Limits.{maxRegisters, maxPairs, maxDelay, maxNeed, maxPeriod}
+use Rattle.timing.specs.Limits.{maxRegisters, maxPairs, maxDelay, maxPeriod}
 use Rattle.words.specs.Word.{kindHead, kindPair, kindLeast, kindGreatest, kindNeeds, kindEnd, kindOf, payloadOf, headSpare, pairSpare, checksum}
 use Rattle.words.specs.Word.{holdOf, setupOf, needsSpare}
 use Rattle.refusals.specs.Checks.{Check, orCheck, faultAfter, firstFault, eachCheck}
@@ -19,14 +18,13 @@ use Rattle.refusals.specs.declared.Fault.{Fault}
 use Rattle.refusals.specs.declared.Fault.the-variants.{None, At}
 use Rattle.refusals.proofs.CheckLaws.{or-passed, stop-first, pass-first, both-pass, pass-both, passed, passes, each-of, all-of}
 use Rattle.refusals.proofs.ReplyLaws.{numbers-none}
-use Rattle.list_format.specs.Lists.{word, registers, pairCount, needWordsBy, needWords, holdAt, setupAt, needsOf, placeBy, pairPlace, writtenAt}
+use Rattle.list_format.specs.Lists.{word, registers, pairCount, needWords, holdAt, setupAt, needsOf, pairPlace, writtenAt}
 use Rattle.list_format.specs.Lists.{countingNeeds, pairAt, pairsFrom, pairs, placeOf, stepOf, noNeeds}
 use Rattle.list_format.specs.Lists.{differ, headChecks, needChecks, blockChecks, kindChecks, valueChecks, pairChecks, endChecks, pairsChecks}
 use Rattle.list_format.specs.Lists.{bodyChecks, listChecks}
 use Rattle.list_format.specs.Lists.{judged, verdict, NeedsIn, ValuesIn, WrittenIn, IsAccepted, AcceptedList}
 use Rattle.list_format.specs.Lists.{firstNeeds, IsUsable, UsableList, PairIn, IsWritten, IsPair}
 use Rattle.list_format.proofs.NeedsLaws.{needs-present, needs-absent}
-use Rattle.list_format.specs.declared.Verdict.{Verdict}
 use Rattle.list_format.specs.declared.Verdict.the-variants.{Accepted, Refused}
 
 -- ---- the verdict and the first check that fails

@@ -4,32 +4,29 @@
 -- all 0 (`needs-is`). It makes each word from its kind and its fields, which in an accepted list are those of the word that stood there
 -- (`one-is`, `three-is`, `open-is`); the checksum over equal words is the same, and so is the end word (`words-back`). It refuses nothing,
 -- for its checks ask no more of the numbers than those of the list (`checks-back`).
-use Prim.Native.Nat.{ℕ, zero, suc, _+_, _*_, _/_, _%_, _<_, _≤_}
+use Prim.Native.Nat.{ℕ, zero, suc, _+_, _*_, _%_, _<_, _≤_}
 use mathlib.Core.Bool.{Bool, true, false, cond, _&&_}
 use mathlib.Core.List.{List, [], _∷_, _++_}
 use mathlib.Core.Path.{_≡_, refl, sym, _∙_, ap}
-use native.Mathlib.Numerals.{add-one}
 use native.Mathlib.Omega.{arith}
-use lib.Dec.{ltb}
 use lib.ListN.{length, getD, take, drop}
 use lib.Seq.{take-suc, take-all, take-add, drop-drop}
-use borrow.Author.Tests.{lt-ltb, le-ltb, eq-eqb, ne-eqb}
-use Rattle.timing.specs.declared.Pair.{Pair}
+use borrow.Author.Tests.{lt-ltb, le-ltb, ne-eqb}
 use Rattle.timing.specs.Limits.{maxPairs, maxNeed}
-use Rattle.words.specs.Word.{kindLeast, kindGreatest, kindEnd, wordOf, headWord, needsWord, pairWord, kindOf, payloadOf, checksum, endWord}
+use Rattle.words.specs.Word.{kindLeast, kindGreatest, kindEnd, wordOf, kindOf, payloadOf}
 use Rattle.words.proofs.WordLaws.{word-of-parts, word-of-head, word-of-needs, word-of-pair}
 use Rattle.buffers.specs.Run.{run}
-use Rattle.buffers.proofs.RunLaws.{run-length, run-at, run-front, stretch, take-stretch}
+use Rattle.buffers.proofs.RunLaws.{run-length, run-at, run-front, take-stretch}
 use Rattle.refusals.specs.Checks.{firstFault, eachCheck}
-use Rattle.refusals.specs.Reply.{Outcome, done, unless}
+use Rattle.refusals.specs.Reply.{done, unless}
 use Rattle.refusals.specs.declared.Fault.the-variants.{None}
 use Rattle.refusals.proofs.CheckLaws.{pass-both, passes, all-of}
-use Rattle.list_format.specs.Lists.{word, registers, pairCount, needWords, holdAt, setupAt, needsOf, placeBy, pairPlace, writtenAt}
-use Rattle.list_format.specs.Lists.{noNeeds, valueChecks, NeedsIn, WrittenIn}
+use Rattle.list_format.specs.Lists.{word, registers, pairCount, needWords, holdAt, setupAt, needsOf, pairPlace, writtenAt}
+use Rattle.list_format.specs.Lists.{noNeeds, valueChecks}
 use Rattle.list_format.specs.Read.{fourOf, numbersOf}
 use Rattle.list_format.specs.Write.{givenCount, givenPair, givenHold, givenSetup, givenNeeds, oneOf, threeOf, openHead, openList, withEnd}
 use Rattle.list_format.specs.Write.{wordsOf, endPlace, countChecks, givenNeedChecks, givenChecks, writeChecks, writing}
-use Rattle.list_format.proofs.ListLaws.{ListIn, KindsIn, NeedWordIn, no-difference, values-pass, needs-within}
+use Rattle.list_format.proofs.ListLaws.{ListIn, no-difference, values-pass, needs-within}
 use Rattle.list_format.proofs.NeedsLaws.{hold-at, setup-at, needs-all, needs-length, need-at, needs-none}
 
 -- a word of a kind, from its payload

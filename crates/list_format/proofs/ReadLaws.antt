@@ -1,20 +1,19 @@
 -- The three ways that reading can end, each with the whole promise.
 use Prim.Native.Nat.{ℕ, _+_, _*_, _<_, _≤_}
 use mathlib.Core.List.{List, [], _∷_, _++_, append-assoc}
-use mathlib.Core.Path.{_≡_, refl, sym, _∙_, ap}
+use mathlib.Core.Path.{_≡_, _∙_}
 use native.Mathlib.Omega.{arith}
 use lib.ListN.{length, take, drop}
 use lib.Seq.{take-at, drop-at}
 use borrow.Author.Tests.{lt-ltb, le-ltb}
 use Rattle.buffers.specs.Over.{over}
-use Rattle.refusals.specs.Reply.{Outcome, refused, done, replyOf, bufferAfter}
+use Rattle.refusals.specs.Reply.{refused, done, replyOf, bufferAfter}
 use Rattle.refusals.proofs.ReplyLaws.{one-fails, one-passes, first-refused, then-refused, then-done}
 use Rattle.list_format.specs.Lists.{registers, pairCount, needsOf, listChecks, verdict}
-use Rattle.list_format.specs.Read.{numbersOf, readPlaces, readChecks, reading, readReply}
+use Rattle.list_format.specs.Read.{numbersOf, readPlaces, reading, readReply}
 use Rattle.list_format.specs.Write.{writing}
 use Rattle.list_format.specs.RoundTrip.{ReadAs}
 use Rattle.list_format.specs.declared.Verdict.the-variants.{Accepted, Refused}
-use Rattle.list_format.specs.declared.Reading.{Reading}
 use Rattle.list_format.specs.declared.Reading.the-variants.{Read}
 use Rattle.list_format.specs.declared.Reading.the-variants.{Refused as NotRead}
 use Rattle.list_format.proofs.ListLaws.{refused→fault, accepted→none, list-in}

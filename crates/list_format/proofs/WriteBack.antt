@@ -3,33 +3,31 @@
 -- made from (`head-is`, `needs-are`, `word-is`, `pair-is`, `end-is`). The second word is one of needs exactly if such were written
 -- (`needs-count`). Hence the reader accepts the list (`list-back`), and finds the numbers that were given, pair by pair (`numbers-back`)
 -- and register by register (`needs-back`).
-use Prim.Native.Nat.{ℕ, zero, suc, _+_, _*_, _/_, _%_, _^_, _<_, _≤_}
+use Prim.Native.Nat.{ℕ, zero, suc, _+_, _*_, _%_, _^_, _<_, _≤_}
 use mathlib.Core.Bool.{Bool, true, false, cond, _&&_}
 use mathlib.Core.List.{List, [], _∷_, _++_}
 use mathlib.Core.Path.{_≡_, refl, sym, _∙_, ap, subst}
-use native.Mathlib.Numerals.{add-one}
 use native.Mathlib.Omega.{arith}
 use lib.Dec.{ltb, eqb}
 use lib.ListN.{length, getD, take, drop, length-append, List·getD-append}
 use lib.Seq.{take-at, getD-at, getD-append-add}
 use borrow.Author.Tests.{lt-ltb, le-ltb, ltb-false, eqb-false, eq-eqb, ne-eqb}
 use Rattle.timing.specs.declared.Pair.{Pair}
-use Rattle.timing.specs.Limits.{maxRegisters, maxPairs, maxDelay, maxNeed}
-use Rattle.words.specs.Word.{payloadBits, kindLeast, kindGreatest, kindNeeds, kindEnd, kindOf, payloadOf, headRegisters}
-use Rattle.words.specs.Word.{headWord, needsWord, pairWord, leastWord, greatestWord, endWord, checksum}
+use Rattle.words.specs.Word.{payloadBits, kindLeast, kindGreatest, kindNeeds, kindEnd, kindOf, payloadOf}
+use Rattle.words.specs.Word.{needsWord, pairWord, endWord, checksum}
 use Rattle.words.proofs.WordLaws.{HeadIs, head-of-word, NeedsWordIs, needs-of-word, PairWordIs, pair-of-word, kind-of-word, payload-of-word}
 use Rattle.buffers.specs.Run.{run}
-use Rattle.buffers.proofs.RunLaws.{run-length, run-at, run-is, stretch, take-stretch}
+use Rattle.buffers.proofs.RunLaws.{run-length, run-at, run-is, take-stretch}
 use Rattle.refusals.specs.Checks.{firstFault, eachCheck}
-use Rattle.refusals.specs.Reply.{Outcome, done, unless}
+use Rattle.refusals.specs.Reply.{done, unless}
 use Rattle.refusals.specs.declared.Fault.the-variants.{None}
 use Rattle.refusals.proofs.CheckLaws.{both-pass, pass-both, passed, passes, each-of}
-use Rattle.list_format.specs.Lists.{word, registers, pairCount, needWordsBy, needWords, holdAt, setupAt, twoAt, needsOf, placeBy, pairPlace}
-use Rattle.list_format.specs.Lists.{pairOf, writtenAt, noNeeds, listChecks, NeedsIn, ValuesIn, WrittenIn}
+use Rattle.list_format.specs.Lists.{word, registers, pairCount, needWordsBy, needWords, holdAt, setupAt, twoAt, needsOf, placeBy}
+use Rattle.list_format.specs.Lists.{writtenAt, noNeeds, listChecks, WrittenIn}
 use Rattle.list_format.specs.Read.{fourOf, numbersOf, readPlaces, readChecks, reading}
 use Rattle.list_format.specs.Write.{givenCount, givenPair, givenHold, givenSetup, givenNeeds, FitsWords, NeedsFit, oneOf, threeOf, openHead, openList}
-use Rattle.list_format.specs.Write.{withEnd, wordsOf, endPlace, countChecks, givenNeedChecks, givenChecks, writeChecks, GivenIn}
-use Rattle.list_format.proofs.ListLaws.{HeadIn, NeedWordIn, KindsIn, EndIn, ListIn, same, values-in, list-pass}
+use Rattle.list_format.specs.Write.{wordsOf, endPlace, countChecks, givenNeedChecks, givenChecks, writeChecks, GivenIn}
+use Rattle.list_format.proofs.ListLaws.{NeedWordIn, KindsIn, EndIn, ListIn, same, values-in, list-pass}
 use Rattle.list_format.proofs.NeedsLaws.{need-zero, hold-at, hold-none, setup-at, setup-none}
 
 -- as many words of needs as registers, or none

@@ -1,7 +1,7 @@
 -- The ways that writing can end, each with the whole promise.
 use Prim.Native.Nat.{ℕ, _+_, _<_, _≤_}
 use mathlib.Core.List.{List, [], _∷_, _++_}
-use mathlib.Core.Path.{_≡_, refl, sym, _∙_, ap}
+use mathlib.Core.Path.{_≡_, sym, _∙_, ap}
 use native.Mathlib.Omega.{arith}
 use lib.ListN.{length, take, set}
 use lib.Seq.{take-at}
@@ -19,7 +19,6 @@ use Rattle.list_format.specs.Read.{reading}
 use Rattle.list_format.specs.Write.{givenCount, givenPair, givenNeeds, oneOf, threeOf, openHead, openList, wordsOf, endPlace}
 use Rattle.list_format.specs.Write.{countChecks, givenNeedChecks, givenChecks, givenPairs, givenBody, writeChecks, writing, writeReply, GivenIn}
 use Rattle.list_format.specs.RoundTrip.{WrittenAs}
-use Rattle.list_format.specs.declared.Writing.{Writing}
 use Rattle.list_format.specs.declared.Writing.the-variants.{Written, Refused}
 use Rattle.list_format.proofs.WriteBack.{given-in, head-length, open-length, words-length, write-back}
 

@@ -7,10 +7,9 @@ use mathlib.Core.List.{List, [], _∷_, _++_, append-nil}
 use mathlib.Core.Path.{_≡_, refl, sym, _∙_, ap}
 use native.Mathlib.Omega.{arith}
 use lib.Dec.{ltb, eqb}
-use lib.ListN.{length, getD, take, drop, length-append}
+use lib.ListN.{length, getD, drop, length-append}
 use lib.Seq.{take-at, drop-at, ext-getD}
 use borrow.Author.Tests.{ltb-false, eqb-true, le-ltb, eq-eqb, ne-eqb}
-use Rattle.timing.specs.Limits.{maxPairs}
 use Rattle.buffers.specs.Run.{run}
 use Rattle.buffers.specs.Over.{zeros}
 use Rattle.buffers.proofs.RunLaws.{run-length, run-most}

@@ -8,7 +8,7 @@ use mathlib.Core.Path.{_≡_, refl, ap, sym, _∙_}
 use native.Mathlib.Nat.{le-trans}
 use native.Mathlib.Omega.{arith}
 use borrow.Author.Tests.{ltb-false}
-use lib.ListN.{length, take, drop, replicate, length-append, length-drop, length-replicate}
+use lib.ListN.{length, take, drop, replicate, length-drop, length-replicate}
 use lib.Seq.{length-take-le, take-at, drop-at, drop-drop}
 use Rattle.timing.specs.Rules.{Each, InRange}
 use Rattle.timing.specs.Limits.{maxTiming, scratchPlaces}
@@ -23,7 +23,7 @@ use Rattle.refusals.proofs.ReplyLaws.{answered-done, first-refused, then-refuse
 use Rattle.list_format.specs.Lists.{registers, pairCount, pairs, listChecks, verdict, IsAccepted, UsableList}
 use Rattle.list_format.specs.declared.Verdict.the-variants.{Accepted}
 use Rattle.list_format.specs.declared.Verdict.the-variants.{Refused as ListRefused}
-use Rattle.list_format.proofs.ListLaws.{refused→fault, accepted→none, none→accepted, usable-list, pairs-in-range, some-registers, still-usable}
+use Rattle.list_format.proofs.ListLaws.{refused→fault, accepted→none, none→accepted, usable-list, pairs-in-range, some-registers}
 use Rattle.counted_list.specs.Counted.{countedIn, Countable}
 use Rattle.counted_list.proofs.CountedLaws.{counted-length, counted-usable, counted-pairs}
 use Rattle.free_laws.specs.Free.{common, freePeriod, freeSchedule}

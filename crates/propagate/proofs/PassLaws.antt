@@ -6,16 +6,15 @@
 use mathlib.Core.Path.{_≡_, refl, _∙_, ap, subst}
 use mathlib.Core.Bool.{Bool, true, false}
 use mathlib.Core.List.{List, _++_}
-use Prim.Native.Nat.{ℕ, zero, suc, _+_, _-_, _*_, _≤_, _<_}
+use Prim.Native.Nat.{ℕ, _+_, _-_, _*_, _≤_, _<_}
 use native.Mathlib.Omega.{arith}
 use lib.ListN.{length, take, drop, length-append, length-drop}
 use lib.Seq.{drop-at, take-at, length-take-le}
 use borrow.Author.Count.{below-more}
 use Rattle.buffers.proofs.FillLaws.{drop-further}
 use Rattle.timing.specs.declared.Pair.{Pair}
-use Rattle.timing.specs.Rules.{Each}
 use Rattle.timing.specs.Limits.{perPair}
-use Rattle.list_format.specs.Lists.{pairCount, pairAt, pairsFrom, pairs, placeOf}
+use Rattle.list_format.specs.Lists.{pairCount, pairAt, pairs, placeOf}
 use Rattle.list_format.proofs.ListLaws.{pair-holds, each-place}
 use Rattle.split_laws.specs.declared.Change.{Change}
 use Rattle.split_laws.specs.declared.Change.the-variants.{Settled, Changed, Clash}

@@ -1,9 +1,9 @@
 -- What a pass over the pairs promises. It speaks of all splits that work: each that agreed with the marks still does,
 -- and a clash says that no split that works agrees with the marks.
 use mathlib.Core.Path.{_≡_}
-use mathlib.Core.Bool.{Bool, true, false, cond}
+use mathlib.Core.Bool.{Bool, true, false}
 use mathlib.Core.List.{List}
-use Prim.Native.Nat.{ℕ, _-_, _*_, _<_}
+use Prim.Native.Nat.{ℕ, _<_}
 use lib.ListN.{length, take, drop}
 use Rattle.list_format.specs.Lists.{pairCount, pairAt, pairs}
 use Rattle.split_laws.specs.declared.Change.{Change}

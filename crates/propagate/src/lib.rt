@@ -1,9 +1,8 @@
 // Whether some split works at a period and an offset, for a usable list; if so, the marks are those of the first.
 // The contracts cite `specs/Store.antt` (what the scratch holds) and `specs/Passes.antt` (what a pass promises).
 ghost use mathlib.Core.Path.{_≡_};
-ghost use mathlib.Core.List.{_++_};
 ghost use Prim.Native.Nat.{_+_, _*_, _≤_, _<_};
-ghost use lib.ListN.{length, take, drop, replicate};
+ghost use lib.ListN.{length, take};
 ghost use Rattle.buffers.specs.Over.{over};
 ghost use Rattle.timing.specs.Limits.{perPair};
 ghost use Rattle.list_format.specs.Lists.{registers, UsableList};

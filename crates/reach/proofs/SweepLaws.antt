@@ -10,7 +10,7 @@ use native.Mathlib.Nat.{le-refl, sub-zero}
 use native.Mathlib.Omega.{arith}
 use lib.Dec.{ltb}
 use lib.ListN.{length, getD, take, drop, set, replicate, length-replicate, length-map, drop-of-length-le}
-use lib.Seq.{ext-getD, getD-take, length-take-le}
+use lib.Seq.{ext-getD}
 use borrow.Author.Count.{below-more}
 use Rattle.buffers.specs.Run.{run}
 use Rattle.buffers.specs.Over.{over}

@@ -3,7 +3,7 @@
 // The contracts cite `specs/Settling.antt`, and the definitions of `plan_laws` (reaches and the plan).
 ghost use mathlib.Core.Path.{_≡_};
 ghost use mathlib.Core.Bool.{_||_};
-ghost use Prim.Native.Nat.{_+_, _≤_, _<_, max, min};
+ghost use Prim.Native.Nat.{_+_, _<_, max, min};
 ghost use lib.Dec.{ltb};
 ghost use lib.ListN.{length};
 ghost use Rattle.list_format.specs.Lists.{pairs, UsableList};

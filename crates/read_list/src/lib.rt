@@ -6,7 +6,7 @@ ghost use mathlib.Core.List.{[], _∷_, _++_};
 ghost use Prim.Native.Nat.{_+_, _*_, _<_, _≤_};
 ghost use lib.ListN.{length, take, drop};
 ghost use Rattle.buffers.specs.Over.{over};
-ghost use Rattle.list_format.specs.Lists.{registers, pairCount, needWords, twoAt, needsOf, IsAccepted};
+ghost use Rattle.list_format.specs.Lists.{registers, pairCount, needWords, needsOf, IsAccepted};
 ghost use Rattle.list_format.specs.Read.{fourOf, numbersOf};
 ghost use Rattle.list_format.specs.RoundTrip.{ReadAs};
 ghost use Rattle.read_list.specs.Stored.{isOne, stored};

@@ -37,32 +37,48 @@ lineWidth = placeWidth + wordsWidth
 
 -- ---- the words
 
--- the words for a number: those of the row with that number, or the others if there is none
-unfoldable pub wordsFor : List (ℕ × String) → String → ℕ → List ℕ
-wordsFor [] others number = letters others
-wordsFor ((k, words) ∷ rows) others number = cond (eqb number k) (letters words) (wordsFor rows others number)
+-- the words for a number: those of the row with that number, or what the rest says if there is none
+unfoldable pub wordsFor : List (ℕ × String) → (ℕ → List ℕ) → ℕ → List ℕ
+wordsFor [] rest number = rest number
+wordsFor ((k, words) ∷ rows) rest number = cond (eqb number k) (letters words) (wordsFor rows rest number)
 
--- what a refusal means; 31 to 34: the causes of 3
-abbrev pub meanings : List (ℕ × String)
-meanings =
-    (11, " the count of words, of numbers or of needs is wrong\n")
-    ∷ (12, " the count of registers or of pairs is out of range\n")
-    ∷ (13, " a word of the wrong kind, or a need above 9999 picoseconds\n")
-    ∷ (14, " a register is not below the count of registers\n")
-    ∷ (15, " a delay is above 1000000 picoseconds\n")
-    ∷ (16, " a least delay is above its greatest\n")
-    ∷ (17, " the sum at the end is wrong: the list is damaged\n")
-    ∷ (18, " all needs are zero: such a list has no words for them\n")
-    ∷ (19, " a least delay is below the hold of its capture register\n")
-    ∷ (3, " period, offset or timing out of range, or not one timing for each register\n")
+-- what a refusal of a call means; 31 to 34: the causes of 3
+abbrev pub callMeanings : List (ℕ × String)
+callMeanings =
+    (3, " period, offset or timing out of range, or not one timing for each register\n")
     ∷ (31, " the period is not from 1 to 1009999\n")
     ∷ (32, " the offset is above 1009999\n")
     ∷ (33, " not one timing for each register\n")
     ∷ (34, " a timing is above 516109489\n")
     ∷ []
 
+unfoldable pub callMeaning : ℕ → List ℕ
+callMeaning = wordsFor callMeanings (λ number. letters " a buffer is too short\n")
+
+-- what a refusal of a pair means
+abbrev pub pairMeanings : List (ℕ × String)
+pairMeanings =
+    (14, " a register is not below the count of registers\n")
+    ∷ (15, " a delay is above 1000000 picoseconds\n")
+    ∷ (16, " a least delay is above its greatest\n")
+    ∷ (19, " a least delay is below the hold of its capture register\n")
+    ∷ []
+
+unfoldable pub pairMeaning : ℕ → List ℕ
+pairMeaning = wordsFor pairMeanings callMeaning
+
+-- what a refusal means
+abbrev pub listMeanings : List (ℕ × String)
+listMeanings =
+    (11, " the count of words, of numbers or of needs is wrong\n")
+    ∷ (12, " the count of registers or of pairs is out of range\n")
+    ∷ (13, " a word of the wrong kind, or a need above 9999 picoseconds\n")
+    ∷ (17, " the sum at the end is wrong: the list is damaged\n")
+    ∷ (18, " all needs are zero: such a list has no words for them\n")
+    ∷ []
+
 unfoldable pub meaning : ℕ → List ℕ
-meaning = wordsFor meanings " a buffer is too short\n"
+meaning = wordsFor listMeanings pairMeaning
 
 -- what is wrong with a text
 abbrev pub troubles : List (ℕ × String)
@@ -77,7 +93,7 @@ troubles =
     ∷ []
 
 unfoldable pub trouble : ℕ → List ℕ
-trouble = wordsFor troubles " the text is longer than 131072 bytes\n"
+trouble = wordsFor troubles (λ fault. letters " the text is longer than 131072 bytes\n")
 
 -- the line of a refusal, with the words for its cause
 unfoldable pub causedLine : ℕ → ℕ → ℕ → List ℕ

@@ -3,7 +3,7 @@
 ghost use Prim.Native.Nat.{_+_, _≤_};
 ghost use lib.ListN.{length};
 ghost use Rattle.text_pieces.specs.Pieces.{Put};
-ghost use Rattle.refusal_text.specs.RefusalText.{byteWidth, placeWidth, wordsWidth, lineWidth, meaning, trouble, byteWords, placeWords, causedLine};
+ghost use Rattle.refusal_text.specs.RefusalText.{byteWidth, placeWidth, wordsWidth, lineWidth, callMeaning, pairMeaning, meaning, trouble, byteWords, placeWords, causedLine};
 ghost use Rattle.refusal_text.specs.RefusalText.{refusalLine, refusalLineIn, faultLine};
 use text_pieces::NUMBER_WIDTH;
 use text_pieces::put_bytes;
@@ -22,6 +22,48 @@ const PLACE_WIDTH: usize = 5 + NUMBER_WIDTH + (8 + NUMBER_WIDTH + BYTE_WIDTH);
 // The most bytes of a line: that of a fault is the longest.
 pub const LINE_WIDTH: usize = PLACE_WIDTH + WORDS_WIDTH;
 
+// What a refusal of a call means, or the cause of one.
+fn put_call_meaning(text: &mut [u8], at: usize, number: u32) -> usize
+    requires { ⌜ at + wordsWidth ≤ length (now text) ⌝ }
+    ensures { λ r. ⌜ Put wordsWidth (callMeaning number) (now (text .entry)) at (now (text .exit)) r ⌝ }
+{
+    match number {
+        3 => put_bytes(
+            text,
+            at,
+            b" period, offset or timing out of range, or not one timing for each register\n",
+        ),
+        31 => put_bytes(text, at, b" the period is not from 1 to 1009999\n"),
+        32 => put_bytes(text, at, b" the offset is above 1009999\n"),
+        33 => put_bytes(text, at, b" not one timing for each register\n"),
+        34 => put_bytes(text, at, b" a timing is above 516109489\n"),
+        _ => put_bytes(text, at, b" a buffer is too short\n"),
+    }
+}
+
+// What a refusal of a pair means; other numbers are of a call.
+fn put_pair_meaning(text: &mut [u8], at: usize, number: u32) -> usize
+    requires { ⌜ at + wordsWidth ≤ length (now text) ⌝ }
+    ensures { λ r. ⌜ Put wordsWidth (pairMeaning number) (now (text .entry)) at (now (text .exit)) r ⌝ }
+{
+    match number {
+        14 => put_bytes(
+            text,
+            at,
+            b" a register is not below the count of registers\n",
+        ),
+        15 => put_bytes(text, at, b" a delay is above 1000000 picoseconds\n"),
+        16 => put_bytes(text, at, b" a least delay is above its greatest\n"),
+        19 => put_bytes(
+            text,
+            at,
+            b" a least delay is below the hold of its capture register\n",
+        ),
+        _ => put_call_meaning(text, at, number),
+    }
+}
+
+// What a refusal means; numbers that are not of the list as a whole are of a pair or of a call.
 fn put_meaning(text: &mut [u8], at: usize, number: u32) -> usize
     requires { ⌜ at + wordsWidth ≤ length (now text) ⌝ }
     ensures { λ r. ⌜ Put wordsWidth (meaning number) (now (text .entry)) at (now (text .exit)) r ⌝ }
@@ -42,13 +84,6 @@ fn put_meaning(text: &mut [u8], at: usize, number: u32) -> usize
             at,
             b" a word of the wrong kind, or a need above 9999 picoseconds\n",
         ),
-        14 => put_bytes(
-            text,
-            at,
-            b" a register is not below the count of registers\n",
-        ),
-        15 => put_bytes(text, at, b" a delay is above 1000000 picoseconds\n"),
-        16 => put_bytes(text, at, b" a least delay is above its greatest\n"),
         17 => put_bytes(
             text,
             at,
@@ -59,21 +94,7 @@ fn put_meaning(text: &mut [u8], at: usize, number: u32) -> usize
             at,
             b" all needs are zero: such a list has no words for them\n",
         ),
-        19 => put_bytes(
-            text,
-            at,
-            b" a least delay is below the hold of its capture register\n",
-        ),
-        3 => put_bytes(
-            text,
-            at,
-            b" period, offset or timing out of range, or not one timing for each register\n",
-        ),
-        31 => put_bytes(text, at, b" the period is not from 1 to 1009999\n"),
-        32 => put_bytes(text, at, b" the offset is above 1009999\n"),
-        33 => put_bytes(text, at, b" not one timing for each register\n"),
-        34 => put_bytes(text, at, b" a timing is above 516109489\n"),
-        _ => put_bytes(text, at, b" a buffer is too short\n"),
+        _ => put_pair_meaning(text, at, number),
     }
 }
 

@@ -3,7 +3,7 @@ use Prim.Native.Nat.{ℕ}
 use native.Mathlib.Omega.{arith}
 use mathlib.Core.Bool.{Bool, true, false}
 use mathlib.Core.List.{List, [], _∷_, _++_}
-use mathlib.Core.Path.{_≡_, refl, ap, _∙_}
+use mathlib.Core.Path.{_≡_, refl, _∙_}
 use Rattle.buffers.specs.Over.{over}
 use Rattle.refusals.specs.Checks.{Check, orCheck, faultAfter, firstFault}
 use Rattle.refusals.specs.Reply.{refusal, numbers, Outcome, refused, done, replyOf, bufferAfter, told, answered, unless}

@@ -1,10 +1,10 @@
 -- What decimal numbers with a space or a newline after each are read to: the numbers themselves, by induction on their digits.
 use Prim.Native.Nat.{ℕ, zero, suc, _+_, _-_, _*_, _/_, _%_, _≤_, _<_}
-use mathlib.Core.Bool.{Bool, true, false, cond}
+use mathlib.Core.Bool.{Bool, true, false}
 use mathlib.Core.List.{List, [], _∷_, _++_, append-nil}
 use mathlib.Core.Path.{_≡_, refl, sym, _∙_, ap}
 use native.Mathlib.Omega.{arith}
-use lib.Dec.{ltb, eqb}
+use lib.Dec.{ltb}
 use borrow.Author.Tests.{ltb-true, ltb-false, lt-ltb, le-ltb, ne-eqb}
 use Rattle.text_pieces.specs.Pieces.{zeroByte, digit, decimal, number, space, newline}
 use Rattle.text_pieces.proofs.DecimalLaws.{decimal-one, decimal-more}

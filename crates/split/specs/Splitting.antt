@@ -1,5 +1,5 @@
 -- Whether some split works at a period and an offset, and the first one: what a call comes to.
-use Prim.Native.Nat.{ℕ, _+_, _*_, _≤_}
+use Prim.Native.Nat.{ℕ, _+_, _≤_}
 use mathlib.Core.Bool.{Bool, true, false}
 use mathlib.Core.Logic.{_⊎_}
 use mathlib.Core.List.{List, [], _∷_, _++_}
@@ -10,7 +10,7 @@ use Rattle.timing.specs.Rules.{Each, admissible}
 use Rattle.timing.specs.Limits.{maxPeriod, maxOffset, scratchPlaces}
 use Rattle.refusals.specs.Checks.{Check, firstFault}
 use Rattle.refusals.specs.declared.Fault.the-variants.{None}
-use Rattle.refusals.specs.Reply.{Reply, refusal, numbers, Outcome, refused, done, replyOf, bufferAfter, scratchAfter, answered}
+use Rattle.refusals.specs.Reply.{Reply, refusal, numbers, Outcome, done, replyOf, bufferAfter, scratchAfter, answered}
 use Rattle.list_format.specs.Lists.{registers, pairCount, pairs, listChecks}
 use Rattle.split_laws.specs.Split.{Found, nothing, found, timings, firstSplit}
 use Rattle.checker.specs.Check.{Passes}

@@ -15,7 +15,7 @@ use Rattle.timing.specs.Rules.{pairMet, admissible, Each, time}
 use Rattle.timing.proofs.RuleLaws.{and-true}
 use Rattle.split_laws.specs.declared.Change.{Change}
 use Rattle.split_laws.specs.declared.Change.the-variants.{Settled}
-use Rattle.split_laws.specs.Split.{nothing, found, timeOf, timings, meets, broken, works, splits, firstOf, firstSplit}
+use Rattle.split_laws.specs.Split.{nothing, found, timeOf, timings, meets, works, splits, firstOf, firstSplit}
 use Rattle.split_laws.specs.Choices.{mark, late, isLate, brokenRow, flag}
 use Rattle.split_laws.specs.Marks.{choice, Agrees, splitOf, MarkStep, joined, Avoids, Applied, Seeded}
 use Rattle.split_laws.specs.Marks.{Flagged, keeps, Keeps, RowsClosed, MarksClosed, Settles}

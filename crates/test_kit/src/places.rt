@@ -40,6 +40,11 @@ pub fn kept(buffer: &[u32], from: usize) -> bool {
     true
 }
 
+// Whether a scratch is zero in its first `count` places, and kept behind.
+pub fn cleared(scratch: &[u32], count: usize) -> bool {
+    zero(scratch, count) && kept(scratch, count)
+}
+
 // The first `count` places, or all if there are fewer.
 pub fn front(s: &[u32], count: usize) -> &[u32] {
     if count <= s.len() {

@@ -3,7 +3,7 @@ use crate::rules::hold_of;
 use timing::MAX_DELAY;
 use timing::MAX_NEED;
 ghost use Prim.Native.Nat.{_-_, _^_, _<_, _≤_};
-ghost use Rattle.timing.specs.Limits.{maxPairs};
+ghost use Rattle.timing.specs.Limits.{maxRegisters, maxPairs};
 
 // The numbers are those below this, 2^31 - 1; the factor takes one to the next.
 const MODULUS: u64 = 0x7FFF_FFFF;
@@ -36,6 +36,13 @@ pub fn put(numbers: &mut [u32], at: usize, a: u32, b: u32, c: u32, d: u32) {
     numbers[at + 1] = b;
     numbers[at + 2] = c;
     numbers[at + 3] = d;
+}
+
+// What was drawn: a list of n registers and m pairs. With it the next seed.
+pub struct Drawn {
+    pub n: u32,
+    pub m: usize,
+    pub seed: u64,
 }
 
 // Needs up to `most` in every place. The answer is the next seed.
@@ -88,4 +95,29 @@ pub fn pairs(seed: u64, last: u32, most: u32, m: usize, needs: &[u32], numbers: 
         k += 1;
     }
     s
+}
+
+// A list of up to `registers` registers, no fewer than one, and `most` pairs, with delays up to `delay`, more with a hold, and
+// needs up to `need`.
+pub fn list(
+    seed: u64,
+    registers: u32,
+    most: u32,
+    delay: u32,
+    need: u32,
+    numbers: &mut [u32],
+    needs: &mut [u32],
+) -> Drawn
+    requires { ⌜ (1 ≤ registers) × ((registers ≤ maxRegisters) × (most ≤ maxPairs)) ⌝ }
+    ensures { λ r. ⌜ (r .n ≤ maxRegisters) × (r .m ≤ maxPairs) ⌝ }
+{
+    let last = up_to(seed, registers - 1);
+    let m = up_to(next(seed), most) as usize;
+    let after_needs = crate::random::needs(seed, need, needs);
+    let after = pairs(after_needs, last, delay, m, needs, numbers);
+    Drawn {
+        n: last + 1,
+        m,
+        seed: next(after),
+    }
 }

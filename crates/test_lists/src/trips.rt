@@ -122,19 +122,16 @@ fn one(kind: u32, most: u32, seed: u64) -> Turn {
     let mut needs = [0u32; NEEDS];
     let mut words = [0u32; SMALL];
     let mut back = [0u32; SMALL];
-    let last = random::up_to(seed, 7);
-    let m = random::up_to(random::next(seed), 6) as usize;
-    let drawn = random::needs(seed, most, &mut needs);
-    let next = random::pairs(drawn, last, DELAY, m, &needs, &mut numbers);
+    let d = random::list(seed, 8, 6, DELAY, most, &mut numbers, &mut needs);
     let count = there_and_back(
-        last + 1,
-        front(&numbers, 4 * m),
-        front(&needs, 2 * (last as usize) + 2),
+        d.n,
+        front(&numbers, 4 * d.m),
+        front(&needs, 2 * (d.n as usize)),
         &mut words,
         &mut back,
     );
     Turn {
-        seed: random::next(next),
+        seed: d.seed,
         fate: fate(kind, seed, count, &mut words),
     }
 }

@@ -3,11 +3,11 @@ use free_schedule::FreeAnswer;
 use planner::Planning;
 use test_kit::lists::needy;
 use test_kit::places::DIRT;
+use test_kit::places::cleared;
 use test_kit::places::front;
 use test_kit::places::kept;
 use test_kit::places::rest;
 use test_kit::places::same;
-use test_kit::places::zero;
 use test_kit::random;
 use test_kit::rules;
 use test_kit::tally::Tally;
@@ -159,18 +159,14 @@ fn right(words: &[u32], numbers: &[u32], needs: &[u32], n: usize, m: usize) -> u
     if !shown(words, numbers, needs, n, m, free, two, offset, &answer) {
         return 2;
     }
-    left(&answer, 2 * n, &scratch, 6 * n + 4 * m)
-}
-
-// 1 if the places behind are kept and the scratch is zero where it was used, else 2.
-fn left(answer: &[u32], used: usize, scratch: &[u32], cleared: usize) -> u32 {
-    if !kept(answer, used) {
+    if !kept(&answer, 2 * n) {
         return 2;
     }
-    if !zero(scratch, cleared) {
-        return 2;
+    if cleared(&scratch, 6 * n + 4 * m) {
+        1
+    } else {
+        2
     }
-    if kept(scratch, cleared) { 1 } else { 2 }
 }
 
 // A random list of up to six registers and six pairs with delays up to nine, more with a hold, and needs up to `most`.
@@ -179,19 +175,17 @@ fn one(seed: u64, most: u32) -> Turn {
     let mut numbers = [0u32; 24];
     let mut needs = [0u32; 12];
     let mut words = [0u32; 26];
-    let last = random::up_to(seed, 5);
-    let m = random::up_to(random::next(seed), 6) as usize;
-    let drawn = random::needs(seed, most, &mut needs);
-    let next = random::pairs(drawn, last, 9, m, &needs, &mut numbers);
+    let d = random::list(seed, 6, 6, 9, most, &mut numbers, &mut needs);
+    let n = d.n as usize;
     let count = needy(
-        last + 1,
-        front(&numbers, 4 * m),
-        front(&needs, 2 * (last as usize) + 2),
+        d.n,
+        front(&numbers, 4 * d.m),
+        front(&needs, 2 * n),
         &mut words,
     );
     Turn {
-        seed: random::next(next),
-        fate: right(front(&words, count), &numbers, &needs, last as usize + 1, m),
+        seed: d.seed,
+        fate: right(front(&words, count), &numbers, &needs, n, d.m),
     }
 }
 

@@ -137,26 +137,17 @@ fn one(seed: u64, most: u32, checking: bool) -> Turn {
     let mut numbers = [0u32; 16];
     let mut needs = [0u32; 6];
     let mut words = [0u32; 17];
-    let last = random::up_to(seed, 2);
-    let m = random::up_to(random::next(seed), 4) as usize;
-    let drawn = random::needs(seed, most, &mut needs);
-    let next = random::pairs(drawn, last, 5, m, &needs, &mut numbers);
+    let d = random::list(seed, 3, 4, 5, most, &mut numbers, &mut needs);
+    let n = d.n as usize;
     let count = needy(
-        last + 1,
-        front(&numbers, 4 * m),
-        front(&needs, 2 * (last as usize) + 2),
+        d.n,
+        front(&numbers, 4 * d.m),
+        front(&needs, 2 * n),
         &mut words,
     );
     Turn {
-        seed: random::next(next),
-        fate: fate(
-            &numbers,
-            &needs,
-            last as usize + 1,
-            m,
-            front(&words, count),
-            checking,
-        ),
+        seed: d.seed,
+        fate: fate(&numbers, &needs, n, d.m, front(&words, count), checking),
     }
 }
 

@@ -5,7 +5,7 @@ use test_kit::lists;
 use test_kit::places::front;
 use test_kit::random;
 use test_kit::show;
-ghost use Prim.Native.Nat.{_+_, _<_, _≤_};
+ghost use Prim.Native.Nat.{_+_, _<_};
 ghost use Rattle.timing.specs.Limits.{maxRegisters};
 
 // The pairs of a chain, and the numbers, words and places of scratch of its list.

@@ -2,10 +2,10 @@
 use split::Splitting;
 use test_kit::lists::needy;
 use test_kit::places::DIRT;
+use test_kit::places::cleared;
 use test_kit::places::front;
 use test_kit::places::kept;
 use test_kit::places::same;
-use test_kit::places::zero;
 use test_kit::random;
 use test_kit::rules;
 use test_kit::tally::Tally;
@@ -32,10 +32,7 @@ fn right(
     answer: &[u32],
     scratch: &[u32],
 ) -> bool {
-    if !zero(scratch, end) {
-        return false;
-    }
-    if !kept(scratch, end) {
+    if !cleared(scratch, end) {
         return false;
     }
     match r {
@@ -102,19 +99,17 @@ fn one(seed: u64, most: u32) -> Turn {
     let mut numbers = [0u32; 20];
     let mut needs = [0u32; 8];
     let mut words = [0u32; 21];
-    let last = random::up_to(seed, 3);
-    let m = random::up_to(random::next(seed), 5) as usize;
-    let drawn = random::needs(seed, most, &mut needs);
-    let next = random::pairs(drawn, last, 12 - most % 4, m, &needs, &mut numbers);
+    let d = random::list(seed, 4, 5, 12 - most % 4, most, &mut numbers, &mut needs);
+    let n = d.n as usize;
     let count = needy(
-        last + 1,
-        front(&numbers, 4 * m),
-        front(&needs, 2 * (last as usize) + 2),
+        d.n,
+        front(&numbers, 4 * d.m),
+        front(&needs, 2 * n),
         &mut words,
     );
     Turn {
-        seed: random::next(next),
-        fate: periods(front(&words, count), &numbers, &needs, last as usize + 1, m),
+        seed: d.seed,
+        fate: periods(front(&words, count), &numbers, &needs, n, d.m),
     }
 }
 

@@ -9,7 +9,7 @@ ghost use Rattle.buffers.specs.Over.{over};
 ghost use Rattle.words.specs.Word.{countBits, registerBits, headWord, endWord, checksum};
 ghost use Rattle.refusals.specs.Checks.{firstFault};
 ghost use Rattle.list_format.specs.Lists.{placeBy, noNeeds};
-ghost use Rattle.list_format.specs.Write.{givenCount, givenPair, givenHold, givenNeeds, FitsWords, PairsFit, NeedsFit, oneOf, threeOf};
+ghost use Rattle.list_format.specs.Write.{givenPair, givenHold, givenNeeds, FitsWords, PairsFit, NeedsFit, oneOf, threeOf};
 ghost use Rattle.list_format.specs.Write.{wordsOf, endPlace, countChecks, givenNeedChecks, givenPairs, givenBody, writeChecks, GivenIn};
 ghost use Rattle.list_format.specs.RoundTrip.{WrittenAs};
 use list_format::Writing;

@@ -1,6 +1,6 @@
 -- `put_pairs`: the words of all pairs, three places each, after the head.
 -- Invariant `Filling`: those of the first k pairs stand there. What falls: m - k.
-use Prim.Native.Nat.{_+_, _-_}
+use Prim.Native.Nat.{_-_}
 use mathlib.Core.Path.{_≡_, refl}
 use native.Mathlib.Omega.{arith}
 use lib.ListN.{length, take}

@@ -1,5 +1,4 @@
 -- The words of needs decide, or else the pairs and the end.
-use mathlib.Core.Path.{_∙_}
 use Rattle.refusals.proofs.CheckLaws.{then-both}
 use Rattle.list_format.specs.Lists.{needWords, blockChecks, pairsChecks}
 use borrow.Author.Needs.{needs}

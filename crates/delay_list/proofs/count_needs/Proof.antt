@@ -4,7 +4,6 @@ use native.Mathlib.Omega.{arith}
 use Rattle.list_format.specs.Lists.{needWords}
 use Rattle.list_format.proofs.ListLaws.{stands, none-below, needs-from}
 use Rattle.list_format.proofs.NeedsLaws.{hold-at, setup-at, counting-none, counting-at}
-use borrow.Author.Needs.{needs}
 use Rattle.delay_list.proofs.count_needs.Statement.{statement}
 use Rattle.delay_list.proofs.count_needs.Tie as tie
 

@@ -1,5 +1,5 @@
 -- The kinds first, then the values, with 19 last (`hold-last`). Without words of needs every hold is 0.
-use Prim.Native.Nat.{_+_, _≤_}
+use Prim.Native.Nat.{_+_}
 use mathlib.Core.Path.{sym, _∙_}
 use native.Mathlib.Omega.{arith}
 use Rattle.refusals.proofs.CheckLaws.{fault-append}

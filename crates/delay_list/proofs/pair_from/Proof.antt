@@ -1,6 +1,5 @@
 -- By the word after the head: a word of needs, or the first of a pair.
-use Prim.Native.Nat.{_<_, _≤_}
-use mathlib.Core.Path.{sym, _∙_}
+use mathlib.Core.Path.{sym}
 use native.Mathlib.Omega.{arith}
 use Rattle.list_format.proofs.ListLaws.{stands, none-below, needs-from}
 use borrow.Author.Needs.{needs}

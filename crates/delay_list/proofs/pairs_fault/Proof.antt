@@ -1,7 +1,6 @@
 -- `pairs_fault`: the first fault of the pairs, one by one, and of the end.
 -- Invariant `Remaining`: what is left of the checks decides as the whole does. What falls: m - k.
 use Prim.Native.Nat.{_-_}
-use mathlib.Core.Path.{sym, _∙_}
 use native.Mathlib.Omega.{arith}
 use Rattle.refusals.proofs.CheckLaws.{Remaining, remaining-start, remaining-turn, remaining-stops, remaining-end}
 use Rattle.list_format.specs.Lists.{pairPlace, pairChecks, endChecks}

@@ -1,5 +1,4 @@
 -- Only words of needs that are there can all be 0.
-use mathlib.Core.Path.{_∙_}
 use borrow.Author.Tests.{lt-ltb, le-ltb}
 use Rattle.refusals.specs.Checks.{orCheck, faultAfter}
 use borrow.Author.Needs.{needs}

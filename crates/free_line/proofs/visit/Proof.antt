@@ -1,6 +1,5 @@
 -- `visit`: no register is raised past times that meet the rules.
 -- Invariant `Risen`: so it is from the times at the start to those now. What falls: the end at hand.
-use native.Mathlib.Omega.{arith}
 use Rattle.timing.specs.Limits.{maxTiming}
 use Rattle.list_format.specs.Lists.{pairs}
 use Rattle.free_laws.specs.Constraint.{constraints}

@@ -1,7 +1,7 @@
 -- `round`: each pair relaxed once, up or down the list.
 -- Invariant: `Part`, the pairs at the first i places have what both rules ask of the times at the start; and k is the place of the next turn.
 -- What falls: count - i.
-use Prim.Native.Nat.{_+_, _-_, _<_}
+use Prim.Native.Nat.{_-_, _<_}
 use mathlib.Core.Path.{_≡_, _∙_}
 use native.Mathlib.Omega.{arith}
 use Rattle.list_format.specs.Lists.{placeOf}

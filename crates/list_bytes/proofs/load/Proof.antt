@@ -1,5 +1,4 @@
 -- `load`: too many bytes or not four to a word make no words; else the words of the bytes are stored. One law for each.
-use native.Mathlib.Omega.{arith}
 use Rattle.list_bytes.proofs.LoadLaws.{list-long, list-odd, load-none, load-done}
 use borrow.Author.Needs.{needs}
 use Rattle.list_bytes.proofs.load.Statement.{statement}

@@ -1,6 +1,5 @@
 -- `visit`: the register across each end at register r is raised, each stays a reach, and below the longest period seen no split works.
 -- Invariant `Guided`. What falls: the end at hand.
-use native.Mathlib.Omega.{arith}
 use Rattle.reach.specs.Settling.{Guided}
 use Rattle.reach.proofs.SweepLaws.{same-size, guided-more}
 use borrow.Author.Needs.{needs}

@@ -1,4 +1,4 @@
--- `put_trouble`: the words for a fault: one answer for each row of the table, and one for the number without a row.
+-- `put_trouble`: the words for a fault: one answer for each row, and one for the number without a row.
 use native.Mathlib.Omega.{arith}
 use Rattle.text_pieces.proofs.PutLaws.{put-as}
 use Rattle.refusal_text.specs.RefusalText.{wordsWidth, wordsFor, troubles, trouble}
@@ -20,21 +20,10 @@ unfolding wordsFor trouble
 put-trouble-spec =
     tie.close
     (tie.spec
-    (λ c. search needs) (λ c κs. search needs) (λ c. search needs) (λ c κs. search needs)
-    (λ c. search needs) (λ c κs. search needs) (λ c. search needs) (λ c κs. search needs)
-    (λ c. search needs) (λ c κs. search needs) (λ c. search needs) (λ c κs. search needs)
+    (λ c. search needs) (λ c κs. search needs) (λ c. search needs) (λ c κs. search needs) (λ c. search needs) (λ c κs. search needs)
+    (λ c. search needs) (λ c κs. search needs) (λ c. search needs) (λ c κs. search needs) (λ c. search needs) (λ c κs. search needs)
     (λ c. search needs) (λ c κs. search needs) (λ c. search needs) (λ c κs. search needs) (λ c. search needs)
-    (λ c. put-as trouble wordsWidth (c .before .before .before .before .before .match .keys1) (c .before .before .put-bytes .ensures) (omega arith))
-    (λ c. search needs)
-    (λ c. put-as trouble wordsWidth (c .before .before .before .before .before .match .keys2) (c .before .before .put-bytes2 .ensures) (omega arith))
-    (λ c. search needs)
-    (λ c. put-as trouble wordsWidth (c .before .before .before .before .before .match .keys3) (c .before .before .put-bytes3 .ensures) (omega arith))
-    (λ c. search needs)
-    (λ c. put-as trouble wordsWidth (c .before .before .before .before .before .match .keys4) (c .before .before .put-bytes4 .ensures) (omega arith))
-    (λ c. search needs)
-    (λ c. put-as trouble wordsWidth (c .before .before .before .before .before .match .keys5) (c .before .before .put-bytes5 .ensures) (omega arith))
-    (λ c. search needs)
-    (λ c. put-as trouble wordsWidth (c .before .before .before .before .before .match .keys6) (c .before .before .put-bytes6 .ensures) (omega arith))
-    (λ c. search needs)
-    (λ c. put-as trouble wordsWidth (c .before .before .before .before .before .match .keys7) (c .before .before .put-bytes7 .ensures) (omega arith))
-    (λ c. search needs) others)
+    (λ c. search (needs, put-as trouble wordsWidth)) (λ c. search needs) (λ c. search (needs, put-as trouble wordsWidth)) (λ c. search needs)
+    (λ c. search (needs, put-as trouble wordsWidth)) (λ c. search needs) (λ c. search (needs, put-as trouble wordsWidth)) (λ c. search needs)
+    (λ c. search (needs, put-as trouble wordsWidth)) (λ c. search needs) (λ c. search (needs, put-as trouble wordsWidth)) (λ c. search needs)
+    (λ c. search (needs, put-as trouble wordsWidth)) (λ c. search needs) others)

@@ -2,7 +2,6 @@
 -- Invariant `Remaining`: the checks of pair k and later ones decide as the whole run does. What falls: m - k.
 use Prim.Native.Nat.{_+_, _-_}
 use mathlib.Core.List.{[], _∷_}
-use mathlib.Core.Path.{sym, _∙_}
 use native.Mathlib.Omega.{arith}
 use lib.Dec.{ltb}
 use Rattle.refusals.specs.Checks.{orCheck, faultAfter}

@@ -1,9 +1,7 @@
 -- `put_list`: the head and the words of needs, the pairs, and then the end word, are the whole list (`opened-is`, `closed-is`).
-use Prim.Native.Nat.{_+_, _*_, _≤_, _<_, _^_}
-use mathlib.Core.Path.{_≡_, _∙_, ap}
+use Prim.Native.Nat.{_+_}
+use mathlib.Core.Path.{ap}
 use native.Mathlib.Omega.{arith}
-use lib.ListN.{length}
-use Rattle.list_format.specs.Write.{givenCount}
 use Rattle.list_format.proofs.WriteBack.{few-needs, needs-fit, given-fits}
 use Rattle.list_format.proofs.WriteLaws.{opened-is, closed-is}
 use borrow.Author.Needs.{needs}

@@ -1,7 +1,7 @@
 -- `put_needs`: the words of needs, one place each, after the head.
 -- Invariant `Filling`: those of the first r registers stand there. What falls: count - r.
 use Prim.Native.Nat.{_+_, _-_, _<_}
-use mathlib.Core.Path.{_≡_, refl, _∙_}
+use mathlib.Core.Path.{_≡_, refl}
 use native.Mathlib.Omega.{arith}
 use lib.ListN.{length, take}
 use lib.Seq.{length-take-le}

@@ -1,8 +1,7 @@
 -- `advance`: the walk over the registers ends. Invariant: i ≤ n, and the length kept. What falls: n - i.
 use Prim.Native.Nat.{_≤_, _-_}
-use mathlib.Core.Path.{_≡_, _∙_}
+use mathlib.Core.Path.{_≡_}
 use lib.ListN.{length}
-use native.Mathlib.Omega.{arith}
 use borrow.Author.Needs.{needs}
 use Rattle.test_kit.proofs.rules.advance.Statement.{statement}
 use Rattle.test_kit.proofs.rules.advance.Tie as tie

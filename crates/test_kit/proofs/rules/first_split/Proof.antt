@@ -1,6 +1,6 @@
 -- `first_split`: the search over the splits of six registers ends. Invariant: v ≤ 64, and the length kept. What falls: 64 - v.
 use Prim.Native.Nat.{ℕ, _≤_, _-_}
-use mathlib.Core.Path.{_≡_, _∙_}
+use mathlib.Core.Path.{_≡_}
 use lib.ListN.{length}
 use borrow.Author.Needs.{needs}
 use Rattle.test_kit.proofs.rules.first_split.Statement.{statement}

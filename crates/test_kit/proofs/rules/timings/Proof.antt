@@ -1,5 +1,5 @@
 -- `timings`: the walk from the last register to the first ends. Invariant: the length kept. What falls: i.
-use mathlib.Core.Path.{_≡_, _∙_}
+use mathlib.Core.Path.{_≡_}
 use lib.ListN.{length}
 use borrow.Author.Needs.{needs}
 use Rattle.test_kit.proofs.rules.timings.Statement.{statement}

@@ -1,6 +1,6 @@
 -- `doubled`: the places of pair k can be worked out, and the loop ends. Invariant: k ≤ m, and the length kept. What falls: m - k.
 use Prim.Native.Nat.{_≤_, _-_}
-use mathlib.Core.Path.{_≡_, _∙_}
+use mathlib.Core.Path.{_≡_}
 use lib.ListN.{length}
 use borrow.Author.Needs.{needs}
 use Rattle.test_plans.proofs.search.doubled.Statement.{statement}

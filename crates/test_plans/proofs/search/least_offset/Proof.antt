@@ -1,7 +1,7 @@
 -- `least_offset`: the search over the offsets ends. Invariant: the offset is at most one too many, and the length kept.
 -- What falls: the offsets left.
 use Prim.Native.Nat.{ℕ, _≤_, _+_, _-_}
-use mathlib.Core.Path.{_≡_, _∙_}
+use mathlib.Core.Path.{_≡_}
 use lib.ListN.{length}
 use borrow.Author.Needs.{needs}
 use Rattle.test_plans.proofs.search.least_offset.Statement.{statement}

@@ -1,6 +1,6 @@
 -- `none_below`: the search over the periods ends. Invariant: the length kept. What falls: period - t.
 use Prim.Native.Nat.{_-_}
-use mathlib.Core.Path.{_≡_, _∙_}
+use mathlib.Core.Path.{_≡_}
 use lib.ListN.{length}
 use borrow.Author.Needs.{needs}
 use Rattle.test_plans.proofs.search.none_below.Statement.{statement}

@@ -1,8 +1,7 @@
 -- `pairs`: the places of pair k can be worked out, and the loop ends. Invariant: k ≤ m, and the length kept. What falls: m - k.
 use Prim.Native.Nat.{_≤_, _-_}
-use mathlib.Core.Path.{_≡_, _∙_}
+use mathlib.Core.Path.{_≡_}
 use lib.ListN.{length}
-use native.Mathlib.Omega.{arith}
 use borrow.Author.Needs.{needs}
 use Rattle.test_schedules.proofs.large.pairs.Statement.{statement}
 use Rattle.test_schedules.proofs.large.pairs.Tie as tie

@@ -1,5 +1,5 @@
 -- `check_right`: the walk through the schedules ends. Invariant: the length kept. What falls: how many are left.
-use mathlib.Core.Path.{_≡_, _∙_}
+use mathlib.Core.Path.{_≡_}
 use lib.ListN.{length}
 use borrow.Author.Needs.{needs}
 use Rattle.test_schedules.proofs.search.check_right.Statement.{statement}

@@ -1,7 +1,7 @@
 -- `pairs`: the places of pair k can be worked out, and the loop ends. Invariant: k is at most their count, and the length kept.
 -- What falls: the pairs left.
 use Prim.Native.Nat.{_≤_, _-_}
-use mathlib.Core.Path.{_≡_, _∙_}
+use mathlib.Core.Path.{_≡_}
 use lib.ListN.{length}
 use Rattle.timing.specs.Limits.{maxRegisters}
 use borrow.Author.Needs.{needs}

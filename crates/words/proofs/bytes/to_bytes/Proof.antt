@@ -1,12 +1,12 @@
 -- `to_bytes`: the bytes of the first `count` words fill the buffer from the front.
 -- Invariant `Filling`: the bytes of the first k words stand there. What falls: count - k.
-use mathlib.Core.List.{[], _∷_}
+use mathlib.Core.List.{[]}
 use mathlib.Core.Path.{refl}
 use Prim.Native.Nat.{_-_, _*_}
 use native.Mathlib.Omega.{arith}
 use lib.ListN.{getD}
-use Rattle.buffers.proofs.FillLaws.{Filling, filled-none, filling-start, filling-size, filling-end, filling-turn, set-put}
-use Rattle.words.specs.Bytes.{wordAt, bytesOf}
+use Rattle.buffers.proofs.FillLaws.{Filling, filled-none, filling-start, filling-size, filling-end, filling-turn}
+use Rattle.words.specs.Bytes.{bytesOf}
 use borrow.Author.Needs.{needs}
 use Rattle.words.proofs.bytes.to_bytes.Statement.{statement}
 use Rattle.words.proofs.bytes.to_bytes.Tie as tie

@@ -6,7 +6,7 @@ use Prim.Native.Nat.{_-_, _<_}
 use native.Mathlib.Omega.{arith}
 use lib.ListN.{length}
 use Rattle.buffers.proofs.FillLaws.{Filling, filled-none, filling-start, filling-size, filling-end, filling-turn, set-put}
-use Rattle.words.specs.Bytes.{wordAt, bytesOf}
+use Rattle.words.specs.Bytes.{wordAt}
 use borrow.Author.Needs.{needs}
 use Rattle.words.proofs.bytes.to_words.Statement.{statement}
 use Rattle.words.proofs.bytes.to_words.Tie as tie
