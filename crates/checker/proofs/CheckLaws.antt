@@ -17,7 +17,7 @@ use lib.Signed.{nonNeg, leZ}
 use Rattle.timing.specs.Rules.{time, admissible, Each}
 use Rattle.timing.specs.Limits.{maxPeriod, maxTiming}
 use Rattle.timing.proofs.MarginLaws.{lt-or-le, at-least-nought, size}
-use Rattle.timing.proofs.RuleLaws.{test→met, met→test, admissible-sound, admissible-complete}
+use Rattle.timing.proofs.RuleLaws.{and-true, test→met, met→test, admissible-sound, admissible-complete}
 use Rattle.search.proofs.SearchLaws.{IsLeast, least-is, least-is-least}
 use Rattle.refusals.specs.Checks.{firstFault}
 use Rattle.refusals.proofs.CheckLaws.{passed, passes, pass-both, stop-first, pass-first}
@@ -30,8 +30,9 @@ use Rattle.list_format.specs.declared.Verdict.the-variants as Verdict
 use Rattle.list_format.specs.declared.Verdict.the-variants.{Accepted}
 use Rattle.list_format.proofs.ListLaws.{refused→fault, accepted→none, same, no-difference, each-pair, pair-holds}
 use Rattle.list_format.proofs.ListLaws.{usable-list, still-usable, is-pair}
-use Rattle.checker.specs.Check.{marginAt, lowRule, smallest, metAt, firstBroken, brokenRule, answerFor, checkValues, checkReply, Walked}
-use Rattle.checker.specs.Check.{someAbove, timingChecks, checkChecks, checking, admits, reported, Passes, IsSmallest, CheckedAs}
+use Rattle.checker.specs.Check.{marginAt, lowRule, smallest, metAt, firstBroken, brokenRule, answerFor, ruleNumber, checkValues, checkReply}
+use Rattle.checker.specs.Check.{someAbove, timingChecks, checkChecks, checking, admits, Passes, reported, marginPlace, IsSmallest}
+use Rattle.checker.specs.Check.{named, IsFirstBroken, CheckedAs, Walked}
 use Rattle.checker.specs.declared.Rule.{Rule}
 use Rattle.checker.specs.declared.Rule.the-variants.{Setup, Hold}
 use Rattle.checker.specs.declared.Smallest.{Smallest}
@@ -94,6 +95,32 @@ module _ (ws : List ℕ) (t : ℕ) (s : List ℕ) where
           → eqb (firstBroken ws t s) (pairCount ws) ≡ admissible t (pairs ws) s
       go (inl e) = eq-eqb _ _ e ∙ sym (none-admissible (omega arith))
       go (inr l) = ne-eqb (firstBroken ws t s) (pairCount ws) (λ e. omega arith) ∙ sym (some-broken l)
+
+  -- ---- the pair and the rule that are named
+
+  met-before : (j : ℕ) → j < firstBroken ws t s → (rule : Rule) → nonNeg (marginAt ws t s j rule) ≡ true
+  unfolding metAt
+  met-before j h Setup = and-true _ (nonNeg (marginAt ws t s j Hold)) (not-false _ (first-is .before j zero-le h)) .0
+  met-before j h Hold = and-true (nonNeg (marginAt ws t s j Setup)) _ (not-false _ (first-is .before j zero-le h)) .1
+
+  -- where setup of that pair is met too
+  met-before-hold : nonNeg (marginAt ws t s (firstBroken ws t s) Setup) ≡ true → (k : ℕ) (rule : Rule)
+      → marginPlace k rule < marginPlace (firstBroken ws t s) Hold → nonNeg (marginAt ws t s k rule) ≡ true
+  unfolding ruleNumber
+  met-before-hold e k Hold l = met-before k (omega arith) Hold
+  met-before-hold e k Setup l = go (eq-or-lt-of-le (omega arith))
+    where
+      go : (k ≡ firstBroken ws t s) ⊎ (k < firstBroken ws t s) → nonNeg (marginAt ws t s k Setup) ≡ true
+      go (inl q) = rw q e
+      go (inr h) = met-before k h Setup
+
+  broken-first : firstBroken ws t s < pairCount ws → IsFirstBroken ws t s (firstBroken ws t s, brokenRule ws t s (firstBroken ws t s))
+  unfolding brokenRule metAt ruleNumber
+  broken-first h = go (nonNeg (marginAt ws t s (firstBroken ws t s) Setup)) refl
+    where
+      go : (x : Bool) → nonNeg (marginAt ws t s (firstBroken ws t s) Setup) ≡ x → IsFirstBroken ws t s (firstBroken ws t s, cond x Hold Setup)
+      go false e = record { below = h; broken = e; first = λ k rule l. met-before k (omega arith) rule }
+      go true e = record { below = h; broken = rw e at (not-true (metAt ws t s (firstBroken ws t s)) (first-is .passes h)); first = met-before-hold e }
 
   -- ---- and exactly if the smallest margin is not negative
 
@@ -185,6 +212,10 @@ module _ (ws : List ℕ) (t : ℕ) (s : List ℕ) where
       answer-by (λ r. Broken k rule x ≡ r → k < pairCount ws) (λ e q. let z : _≡_ {A = ℕ} 0 1 = cc in absurd (omega arith))
       (λ h l q. let z : _≡_ {A = ℕ} 0 1 = cc in absurd (omega arith)) (λ h l q. let same : k ≡ firstBroken ws t s = cc in omega arith)
 
+  answer-broken : Each (IsFirstBroken ws t s) (named (answerFor ws t s))
+  unfolding named
+  answer-broken = answer-by (λ r. Each (IsFirstBroken ws t s) (named r)) (λ e. tt) (λ h l. tt) (λ h l. (broken-first ws t s l, tt))
+
   module _ (usable : IsUsable ws) (few : t ≤ maxPeriod) (limit : (r : ℕ) → time s r ≤ maxTiming) where
     margin-within : (k : ℕ) → k < pairCount ws → (rule : Rule) → natAbs (marginAt ws t s k rule) ≤ maxTiming + maxPeriod
     unfolding marginAt
@@ -258,7 +289,7 @@ module _ (ws : List ℕ) (t : ℕ) (s : List ℕ) where
   -- the call is refused
   refuses : {number place : ℕ} → firstFault (checkChecks ws t s) ≡ At number place → checking ws t s ≡ refused number place
       → CheckedAs ws t s (Refused number place)
-  unfolding replyOf checkReply admits reported
+  unfolding replyOf checkReply admits reported named
   refuses f e =
       record {
         reply = rw e;
@@ -266,6 +297,7 @@ module _ (ws : List ℕ) (t : ℕ) (s : List ℕ) where
         sound = λ a. cc;
         complete = λ a n. let z : _≡_ {A = ℕ} 0 1 = cc in absurd (omega arith);
         margin = tt;
+        broken = tt;
         none = λ q. cc;
         some = λ n q. let z : _≡_ {A = ℕ} 0 1 = cc in absurd (omega arith);
       }
@@ -304,6 +336,7 @@ module _ (ws : List ℕ) (t : ℕ) (s : List ℕ) where
             sound = λ a. sym (answer-admits ws t s) ∙ a;
             complete = λ a n. answer-admits ws t s ∙ a;
             margin = answer-margin ws t s (call-ready .usable) (ltb-false _ _ (c .1 .0)) (time-within s (c .1 .1 .1 .0));
+            broken = answer-broken ws t s;
             none = answer-none ws t s;
             some = λ n q. answer-some ws t s q;
           }

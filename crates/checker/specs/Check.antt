@@ -149,6 +149,19 @@ pub record IsSmallest (ws : List ℕ) (t : ℕ) (s : List ℕ) (x : Smallest) : 
   pub sign : admissible t (pairs ws) s ≡ nonNeg (x .margin)
   pub within : natAbs (x .margin) ≤ maxTiming + maxPeriod
 
+-- the pair and the rule that an answer names as broken
+unfoldable pub named : Checking → List (ℕ × Rule)
+named NoPairs = []
+named (Admissible x) = []
+named (Broken k rule x) = (k, rule) ∷ []
+named (Refused number place) = []
+
+-- the rule of the pair is broken, and no rule before it
+pub record IsFirstBroken (ws : List ℕ) (t : ℕ) (s : List ℕ) (b : ℕ × Rule) : Type 0 where
+  pub below : b .0 < pairCount ws
+  pub broken : nonNeg (marginAt ws t s (b .0) (b .1)) ≡ false
+  pub first : (k : ℕ) (rule : Rule) → marginPlace k rule < marginPlace (b .0) (b .1) → nonNeg (marginAt ws t s k rule) ≡ true
+
 -- the schedule s was checked against the words ws at the period t
 pub record CheckedAs (ws : List ℕ) (t : ℕ) (s : List ℕ) (r : Checking) : Type 0 where
   pub reply : checkReply r ≡ replyOf (checking ws t s)
@@ -158,6 +171,7 @@ pub record CheckedAs (ws : List ℕ) (t : ℕ) (s : List ℕ) (r : Checking) : T
   -- every admissible schedule passes, unless the call is refused
   pub complete : admissible t (pairs ws) s ≡ true → firstFault (checkChecks ws t s) ≡ None → admits r ≡ true
   pub margin : Each (IsSmallest ws t s) (reported r)
+  pub broken : Each (IsFirstBroken ws t s) (named r)
   -- no margin is reported exactly of a list without pairs, unless the call is refused
   pub none : r ≡ NoPairs → pairCount ws ≡ 0
   pub some : firstFault (checkChecks ws t s) ≡ None → pairCount ws ≡ 0 → r ≡ NoPairs

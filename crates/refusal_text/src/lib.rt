@@ -3,8 +3,9 @@
 ghost use Prim.Native.Nat.{_+_, _≤_};
 ghost use lib.ListN.{length};
 ghost use Rattle.text_pieces.specs.Pieces.{Put};
-ghost use Rattle.refusal_text.specs.RefusalText.{byteWidth, placeWidth, wordsWidth, lineWidth, callMeaning, pairMeaning, meaning, trouble, byteWords, placeWords, causedLine};
-ghost use Rattle.refusal_text.specs.RefusalText.{refusalLine, refusalLineIn, faultLine};
+ghost use Rattle.refusal_text.specs.RefusalText.{byteWidth, placeWidth, wordsWidth, lineWidth};
+ghost use Rattle.refusal_text.specs.RefusalText.{callMeaning, pairMeaning, meaning, trouble, byteWords, placeWords};
+ghost use Rattle.refusal_text.specs.RefusalText.{causedLine, refusalLine, refusalLineIn, faultLine};
 use text_pieces::NUMBER_WIDTH;
 use text_pieces::put_bytes;
 use text_pieces::put_named;

@@ -25,7 +25,8 @@ printedTable =
     }
     ∷ record {
       bytes = bytesOfWords
-          (0x20002002 ∷ 0xA0008001 ∷ 0xA0004002 ∷ 0x40000001 ∷ 0x60000007 ∷ 0x8000000A ∷ 0x40000400 ∷ 0x60000001 ∷ 0x80000003 ∷ 0xE000E41B ∷ []);
+          (0x20002002 ∷ 0xA0008001 ∷ 0xA0004002 ∷ 0x40000001 ∷ 0x60000007 ∷ 0x8000000A
+          ∷ 0x40000400 ∷ 0x60000001 ∷ 0x80000003 ∷ 0xE000E41B ∷ []);
       text = "common 11 free 8 two 8 offset 3\n0 0 0\n1 3 3\n";
     }
     ∷ record { bytes = []; text = "refused 11 at 0\n" }

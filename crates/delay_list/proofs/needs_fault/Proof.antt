@@ -22,7 +22,9 @@ needs-fault-spec =
     tie.close
     (tie.spec
     Inv-loop μ-loop (λ c. remaining-start _ _ _) (λ c κs. search needs) (λ c. search needs)
-    (λ c. remaining-stops _ _ _ (c .before .before .before .before .before .loop .inv) (omega arith) (c .before .before .before .need-fault .ensures) (c .before .found .given .1))
+    (λ c. remaining-stops _ _ _ (c .before .before .before .before .before .loop .inv) (omega arith)
+    (c .before .before .before .need-fault .ensures) (c .before .found .given .1))
     (λ c. search needs) (λ c. search needs) (λ c. search needs)
-    (λ c. remaining-turn _ _ _ (c .before .before .before .before .loop .inv) (omega arith) (c .before .before .need-fault .ensures) (c .enum-told .given .1))
+    (λ c. remaining-turn _ _ _ (c .before .before .before .before .loop .inv) (omega arith)
+    (c .before .before .need-fault .ensures) (c .enum-told .given .1))
     (λ c κs. search needs) (λ c. remaining-end _ _ _ (c .before .before .loop .inv) (omega arith) (c .zero-fault .ensures)))
