@@ -106,15 +106,15 @@ pub fn list(
     delay: u32,
     need: u32,
     numbers: &mut [u32],
-    needs: &mut [u32],
+    register_needs: &mut [u32],
 ) -> Drawn
     requires { ⌜ (1 ≤ registers) × ((registers ≤ maxRegisters) × (most ≤ maxPairs)) ⌝ }
     ensures { λ r. ⌜ (r .n ≤ maxRegisters) × (r .m ≤ maxPairs) ⌝ }
 {
     let last = up_to(seed, registers - 1);
     let m = up_to(next(seed), most) as usize;
-    let after_needs = crate::random::needs(seed, need, needs);
-    let after = pairs(after_needs, last, delay, m, needs, numbers);
+    let after_needs = needs(seed, need, register_needs);
+    let after = pairs(after_needs, last, delay, m, register_needs, numbers);
     Drawn {
         n: last + 1,
         m,
