@@ -135,7 +135,8 @@ module _ (a b k : ℕ) (l : k < 4) where
   back c q y = other c a (rowLaunch k) (omega arith) (omega arith) (λ x. q x y)
 
   pub applied : {x y x′ y′ f : ℕ} {M M′ M″ : List ℕ} {o o′ o″ : Change} → x ≡ rowLaunch k → y ≡ rowCapture k → x′ ≡ opposite x →
-      y′ ≡ opposite y → f ≡ 1 → o″ ≡ joined o o′ → Followed a x b y′ M M′ o → Followed b y a x′ M′ M″ o′ → Applied a b k f M M″ o″
+      y′ ≡ opposite y → f ≡ 1 → o″ ≡ joined o o′ → Followed a x b y′ M M′ o → Followed b y a x′ M′ M″ o′
+      → Applied a b k f M M″ o″
   applied ex ey ex′ ey′ e1 e h h′ =
       rw e
       (step-as (λ c q g. q e1) (λ z _. (λ at-a. rw (z .0 at-a) (omega arith), λ at-b. rw (z .1 at-b) (omega arith)))
