@@ -37,7 +37,7 @@ flag-is t s ws after end q h =
     ∙ (rw e at (run-at (λ k. flagAt t s (pairAt ws (k / perPair)) (k % perPair) ∷ []) 1 (λ k. refl) end q 0 h (omega arith)))
 
 -- what stands at place j of four
-four-at : (F : List ℕ) (at j : ℕ) → j < perPair → getD (fourAt F at) j 0 ≡ getD F (at + j) 0
+pub four-at : (F : List ℕ) (at j : ℕ) → j < perPair → getD (fourAt F at) j 0 ≡ getD F (at + j) 0
 four-at F at zero h = let e : at + 0 ≡ at = omega arith in rw e
 four-at F at (suc zero) h = refl
 four-at F at (suc (suc zero)) h = refl

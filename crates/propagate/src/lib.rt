@@ -83,7 +83,7 @@ fn record_broken(words: &[u32], period: u32, offset: u32, m: usize, flags: &mut 
 }
 
 // Blank marks, and the broken choices of the pairs in the part of the scratch from place 6n on.
-fn prepare(words: &[u32], period: u32, offset: u32, n: usize, m: usize, scratch: &mut [u32])
+pub fn prepare(words: &[u32], period: u32, offset: u32, n: usize, m: usize, scratch: &mut [u32])
     requires { ⌜ Lent (now words) n m (now scratch) ⌝ }
     ensures { λ _. ⌜ Prepared period offset (now (words .entry)) n (now (scratch .entry)) (now (scratch .exit)) ⌝ }
 {

@@ -80,7 +80,7 @@ nonzero zero h = absurd (h refl)
 nonzero (suc v) h = refl
 
 -- a mark more leaves fewer without
-unset-set : (M : List ℕ) (r v : ℕ) → r < length M → getD M r 0 ≡ 0 → (v ≡ 0 → ⊥) → unset (set M r v) < unset M
+pub unset-set : (M : List ℕ) (r v : ℕ) → r < length M → getD M r 0 ≡ 0 → (v ≡ 0 → ⊥) → unset (set M r v) < unset M
 unset-set [] r v h e n = absurd (not-suc-le-zero h)
 unset-set (x ∷ M) zero v h e n = rw (nonzero v n, e) (omega arith)
 unset-set (x ∷ M) (suc r) v h e n = omega (arith, unset-set M r v (le-of-suc-le-suc h) e n)

@@ -1,0 +1,40 @@
+-- `clash`: the first pair that clashes, or m. Invariant: none of the first k does. What falls: m - k.
+use denote.Ref.{now}
+use mathlib.Core.Bool.{true, false}
+use mathlib.Core.Logic.{inl, inr}
+use mathlib.Core.Path.{refl}
+use Prim.Native.Nat.{ℕ, _-_, _≤_, _<_}
+use native.Mathlib.Omega.{arith}
+use borrow.Author.Count.{below-more}
+use Rattle.forced_late.specs.Forest.{Clashes, ClashTold}
+use borrow.Author.Needs.{needs}
+use Rattle.forced_late.proofs.clash.Statement.{statement}
+use Rattle.forced_late.proofs.clash.Tie as tie
+
+abbrev Inv-loop : tie.InvT-loop
+Inv-loop words n m scratch k₀ k = (k ≤ m) × ((j : ℕ) → j < k → Clashes words n scratch j → ⊥)
+
+abbrev μ-loop : tie.MeasureT-loop
+μ-loop words n m scratch k₀ k = m - k
+
+returns : tie.Need-returns Inv-loop μ-loop
+returns c = inl (c .before .before .loop-test .taken, rw (c .if1 .taken) at (c .before .clashes .ensures))
+
+loop-again : tie.Need-loop-again Inv-loop μ-loop
+loop-again c =
+    let l = c .before .before .before .loop in
+    let a = c .before .before .before .before .before .before .args in (
+      omega (arith, c .before .before .loop-test .taken),
+      below-more (λ j. Clashes (now (a .words)) (a .n) (now (a .scratch)) j → ⊥) (l .k) (l .inv .1) (rw (c .if1 .left) at (c .before .clashes .ensures)),
+    )
+
+returns-2 : tie.Need-returns-2 Inv-loop μ-loop
+returns-2 c =
+    let l = c .before .loop in
+    inr (refl, λ j h. l .inv .1 j (omega (arith, h, l .inv .0, c .loop-test .left)))
+
+pub clash-spec : {M : Type 1} → statement M
+clash-spec =
+    tie.close
+    (tie.spec Inv-loop μ-loop (λ c. search needs) (λ c κs. search needs) returns (λ c. search needs) (λ c. search needs) loop-again
+    returns-2)
