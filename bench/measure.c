@@ -1,5 +1,7 @@
 /* Plans one list: measure ours|plain|sat FILE REPEATS. Prints the nanoseconds of the fastest call, the common, free and
- * two-timing period and the offset, and the timings. By SAT only the two-timing period and its offset are sought. */
+ * two-timing period and the offset, and the timings. By SAT only the two-timing period and its offset are sought.
+ * Or says why no split works at a period: measure why|plain_why FILE REPEATS PERIOD. Prints the nanoseconds, then 0, or 1, a
+ * register, the lengths of the two chains at it, and their steps. */
 #include <ccadical.h>
 #include <inttypes.h>
 #include <stdio.h>
@@ -11,7 +13,7 @@
 #include "plain.h"
 
 static uint32_t words[DARNERFLAX_MAX_WORDS];
-static uint32_t answer[2 * DARNERFLAX_MAX_REGISTERS];
+static uint32_t answer[DARNERFLAX_MAX_CHAINS];
 static uint32_t scratch[DARNERFLAX_MAX_SCRATCH];
 
 static uint64_t now(void) {
@@ -20,14 +22,22 @@ static uint64_t now(void) {
     return (uint64_t)t.tv_sec * 1000000000u + (uint64_t)t.tv_nsec;
 }
 
-static void ours(size_t count, uint64_t numbers[4]) {
-    uint64_t reply[DARNERFLAX_REPLY];
-    uint32_t refused = darnerflax_plan(words, count, answer, 2 * DARNERFLAX_MAX_REGISTERS, scratch, DARNERFLAX_MAX_SCRATCH, reply);
+static void take(uint32_t refused, const uint64_t *reply, uint64_t numbers[4]) {
     if (refused != 0) {
         fprintf(stderr, "refused %" PRIu32 " at %" PRIu64 "\n", refused, reply[1]);
         exit(1);
     }
     memcpy(numbers, reply + 1, 4 * sizeof *numbers);
+}
+
+static void ours(size_t count, uint64_t numbers[4]) {
+    uint64_t reply[DARNERFLAX_REPLY];
+    take(darnerflax_plan(words, count, answer, 2 * DARNERFLAX_MAX_REGISTERS, scratch, DARNERFLAX_MAX_SCRATCH, reply), reply, numbers);
+}
+
+static void why(size_t count, uint32_t period, uint64_t numbers[4]) {
+    uint64_t reply[DARNERFLAX_REPLY];
+    take(darnerflax_why_not(words, count, period, answer, DARNERFLAX_MAX_CHAINS, scratch, DARNERFLAX_MAX_SCRATCH, reply), reply, numbers);
 }
 
 /* The two-timing period by halving, with the SAT solver as the judge of each period. */
@@ -57,29 +67,39 @@ void sat_plan(uint64_t numbers[4]) {
     numbers[3] = common - low;
 }
 
+static void call(const char *who, size_t count, uint32_t period, uint64_t numbers[4]) {
+    if (strcmp(who, "ours") == 0)
+        ours(count, numbers);
+    else if (strcmp(who, "sat") == 0)
+        sat_plan(numbers);
+    else if (strcmp(who, "why") == 0)
+        why(count, period, numbers);
+    else if (strcmp(who, "plain_why") == 0)
+        plain_why_not(words, period, answer, numbers);
+    else
+        plain_plan(words, count, answer, numbers);
+}
+
 int main(int argc, char **argv) {
-    FILE *file = argc == 4 ? fopen(argv[2], "rb") : NULL;
+    FILE *file = argc == 4 || argc == 5 ? fopen(argv[2], "rb") : NULL;
     if (file == NULL)
         return 2;
     size_t count = fread(words, 4, DARNERFLAX_MAX_WORDS, file);
+    uint32_t period = argc == 5 ? (uint32_t)atoi(argv[4]) : 0;
     fclose(file);
 
     uint64_t best = UINT64_MAX, numbers[4];
     for (int i = atoi(argv[3]); i > 0; i--) {
         uint64_t start = now();
-        if (strcmp(argv[1], "ours") == 0)
-            ours(count, numbers);
-        else if (strcmp(argv[1], "sat") == 0)
-            sat_plan(numbers);
-        else
-            plain_plan(words, count, answer, numbers);
+        call(argv[1], count, period, numbers);
         uint64_t took = now() - start;
         best = took < best ? took : best;
     }
+    size_t stored = argc == 5 ? numbers[2] + numbers[3] : 2 * (words[0] >> 12 & 0x3ff);
     printf("%" PRIu64 "\n", best);
     for (int i = 0; i < 4; i++)
         printf("%" PRIu64 " ", numbers[i]);
-    for (size_t r = 0; r < 2 * (words[0] >> 12 & 0x3ff); r++)
+    for (size_t r = 0; r < stored; r++)
         printf("%" PRIu32 " ", answer[r]);
     printf("\n");
     return 0;

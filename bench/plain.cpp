@@ -1,5 +1,6 @@
 // The usual method for a plan: the free period by halving with Bellman-Ford on the constraint graph, the two-timing period
-// by halving with 2-SAT by strongly connected components, and the first split register by register.
+// by halving with 2-SAT by strongly connected components, and the first split register by register. For the reason for a period:
+// a register with both choices in one component, and the shortest ways from early to late and back.
 #include "plain.h"
 
 #include <algorithm>
@@ -99,18 +100,20 @@ bool meets(const Pair &p, int period, int launch, int capture) {
     return launch - capture <= period - p.greatest && capture - launch <= p.least;
 }
 
+// Each pair of choices that breaks a rule, and its step: 4 times the pair's index plus the row.
 template <class Each> void clauses(const Net &net, int period, int offset, Each each) {
+    int step = 0;
     for (const Pair &p : net.pairs)
         for (int a = 0; a < 2; a++)
-            for (int b = 0; b < 2; b++)
+            for (int b = 0; b < 2; b++, step++)
                 if ((p.launch != p.capture || a == b) && !meets(p, period, a * offset, b * offset))
-                    each(2 * p.launch + a, 2 * p.capture + b);
+                    each(2 * p.launch + a, 2 * p.capture + b, step);
 }
 
 void build(const Net &net, int period, int offset, Implications &g) {
     int nodes = 2 * net.registers;
     g.first.assign(nodes + 1, 0);
-    clauses(net, period, offset, [&](int x, int y) {
+    clauses(net, period, offset, [&](int x, int y, int) {
         g.first[x + 1]++;
         g.first[y + 1]++;
     });
@@ -118,14 +121,14 @@ void build(const Net &net, int period, int offset, Implications &g) {
         g.first[v + 1] += g.first[v];
     g.to.resize(g.first[nodes]);
     std::vector<int> next(g.first.begin(), g.first.end() - 1);
-    clauses(net, period, offset, [&](int x, int y) {
+    clauses(net, period, offset, [&](int x, int y, int) {
         g.to[next[x]++] = y ^ 1;
         g.to[next[y]++] = x ^ 1;
     });
 }
 
-// Tarjan's components without recursion; true if no register has both choices in one.
-bool satisfiable(const Implications &g) {
+// Tarjan's components without recursion: the first register that has both choices in one, or -1.
+int torn(const Implications &g) {
     int nodes = int(g.first.size()) - 1, clock = 0, parts = 0;
     std::vector<int> order(nodes, -1), low(nodes, 0), part(nodes, -1), at(nodes, 0), stack, path;
     for (int start = 0; start < nodes; start++) {
@@ -167,8 +170,8 @@ bool satisfiable(const Implications &g) {
     }
     for (int v = 0; v < nodes; v += 2)
         if (part[v] == part[v + 1])
-            return false;
-    return true;
+            return v / 2;
+    return -1;
 }
 
 int two_period(const Net &net, int free, int common) {
@@ -177,7 +180,7 @@ int two_period(const Net &net, int free, int common) {
     while (low < high) {
         int middle = (low + high) / 2;
         build(net, middle, common - middle, g);
-        if (satisfiable(g))
+        if (torn(g) < 0)
             high = middle;
         else
             low = middle + 1;
@@ -216,7 +219,52 @@ void first_split(const Net &net, int period, int offset, uint32_t *timings) {
         timings[r] = chosen[r] == 1 ? offset : 0;
 }
 
+// ---- the reason for a period
+
+// The step of each arc.
+std::vector<int> steps_of(const Net &net, int period, int offset, const Implications &g) {
+    std::vector<int> next(g.first.begin(), g.first.end() - 1), steps(g.to.size());
+    clauses(net, period, offset, [&](int x, int y, int step) {
+        steps[next[x]++] = step;
+        steps[next[y]++] = step;
+    });
+    return steps;
+}
+
+// The steps of the shortest way from a node to another, breadth first. Their count.
+size_t way(const Implications &g, const std::vector<int> &steps, int from, int to, uint32_t *chain) {
+    std::vector<int> before(g.first.size() - 1, -1), by(g.first.size() - 1, 0), line{from};
+    for (size_t i = 0; before[to] < 0; i++)
+        for (int k = g.first[line[i]]; k < g.first[line[i] + 1]; k++)
+            if (g.to[k] != from && before[g.to[k]] < 0) {
+                before[g.to[k]] = line[i];
+                by[g.to[k]] = steps[k];
+                line.push_back(g.to[k]);
+            }
+    size_t count = 0;
+    for (int v = to; v != from; v = before[v])
+        chain[count++] = uint32_t(by[v]);
+    std::reverse(chain, chain + count);
+    return count;
+}
+
 } // namespace
+
+void plain_why_not(const uint32_t *words, uint32_t period, uint32_t *answer, uint64_t numbers[4]) {
+    Net net = read(words);
+    int offset = std::max(0, common_period(net) - int(period));
+    Implications g;
+    build(net, int(period), offset, g);
+    int r = torn(g);
+    std::fill(numbers, numbers + 4, 0);
+    if (r < 0)
+        return;
+    std::vector<int> steps = steps_of(net, int(period), offset, g);
+    numbers[0] = 1;
+    numbers[1] = r;
+    numbers[2] = way(g, steps, 2 * r, 2 * r + 1, answer);
+    numbers[3] = way(g, steps, 2 * r + 1, 2 * r, answer + numbers[2]);
+}
 
 void plain_plan(const uint32_t *words, size_t, uint32_t *answer, uint64_t numbers[4]) {
     Net net = read(words);
@@ -239,7 +287,7 @@ uint32_t plain_common(const uint32_t *words) {
 
 size_t plain_clauses(const uint32_t *words, uint32_t period, uint32_t offset, int *literals) {
     size_t count = 0;
-    clauses(read(words), period, offset, [&](int x, int y) {
+    clauses(read(words), period, offset, [&](int x, int y, int) {
         literals[count++] = x & 1 ? -(x / 2 + 1) : x / 2 + 1;
         literals[count++] = y & 1 ? -(y / 2 + 1) : y / 2 + 1;
     });

@@ -1,4 +1,5 @@
-/* The usual method, for comparison: the same call as darnerflax_plan, for lists that are in order, with needs or without. */
+/* The usual method, for comparison: the same calls as darnerflax_plan and darnerflax_why_not, for lists that are in order, with needs or
+ * without. */
 #ifndef PLAIN_H
 #define PLAIN_H
 
@@ -11,6 +12,9 @@ extern "C" {
 
 /* The four numbers of the plan in `numbers` and its 2n timings in `answer`. */
 void plain_plan(const uint32_t *words, size_t count, uint32_t *answer, uint64_t numbers[4]);
+
+/* 0, or 1, a register and the lengths of its two chains in `numbers`, and their steps in `answer`. */
+void plain_why_not(const uint32_t *words, uint32_t period, uint32_t *answer, uint64_t numbers[4]);
 
 uint32_t plain_common(const uint32_t *words);
 

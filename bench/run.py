@@ -1,5 +1,6 @@
 #!/usr/bin/env python3
-"""Measures the planner beside the usual method, a SAT solver and two MILP solvers, and writes docs/BENCHMARKS.md.
+"""Measures the planner beside the usual method, a SAT solver and two MILP solvers, and the reason for a period beside the usual method,
+and writes docs/BENCHMARKS.md.
 
     python3 bench/run.py [--limit SECONDS]     SECONDS each MILP solver may take for a list, 20 unless given
 
@@ -27,8 +28,8 @@ def counts(name):
 
 # of the planner with rounds, and of the one that knew no needs
 BEFORE, BEFORE_NEEDS = counts('before.txt'), counts('before-needs.txt')
-CALL = {'ours': 'darnerflax_plan', 'plain': 'plain_plan', 'sat': 'sat_plan'}
-REPEATS = {'ours': 200, 'plain': 5, 'sat': 5}
+CALL = {'ours': 'darnerflax_plan', 'plain': 'plain_plan', 'sat': 'sat_plan', 'why': 'darnerflax_why_not', 'plain_why': 'plain_why_not'}
+REPEATS = {'ours': 200, 'plain': 5, 'sat': 5, 'why': 200, 'plain_why': 20}
 
 
 def shell(*command):
@@ -44,23 +45,24 @@ def build():
     shell('gcc', '-O2', '-Wall', '-Wextra', '-Ic', 'bench/stack.c', 'target/staticlib/libplanner_c.a', '-o', 'target/bench/stack')
 
 
-def instructions(who, file):
+def instructions(who, file, *period):
     """Instructions of one call, without what comes before and after it."""
     out = WORK / 'callgrind.out'
     shell('valgrind', '--tool=callgrind', f'--callgrind-out-file={out}', f'--toggle-collect={CALL[who]}',
-          'target/bench/measure', who, str(file), '1')
+          'target/bench/measure', who, str(file), '1', *period)
     return int(re.search(r'^(?:summary|totals): (\d+)', out.read_text(), re.M).group(1))
 
 
-def measured(who, file):
+def measured(who, file, *period):
     """Seconds of the fastest call, its instructions, and what it returned."""
-    nanoseconds, answer = shell('target/bench/measure', who, str(file), str(REPEATS[who])).split('\n')[:2]
-    return int(nanoseconds) / 1e9, instructions(who, file), answer.split()
+    nanoseconds, answer = shell('target/bench/measure', who, str(file), str(REPEATS[who]), *period).split('\n')[:2]
+    return int(nanoseconds) / 1e9, instructions(who, file, *period), answer.split()
 
 
 class Row:
     def __init__(self, name, net, limit=None, needs=()):
         self.name, self.n, self.m = name, net[0], len(net[1])
+        self.counted_in = lists.counted_in(net, needs) if needs else net
         self.file = WORK / f'{name}.list'
         self.file.write_bytes(lists.encode(net, needs))
         self.seconds, self.count, answer = measured('ours', self.file)
@@ -165,6 +167,66 @@ NEEDY_HEAD = ('list', 'registers', 'pairs', 'common', 'free', 'two', 'ours, mill
               'ours / that', 'plain', 'plain / ours', 'ours, µs', 'plain')
 
 
+class Why:
+    """Why no split works at a period of a list, or that one does. The chains of ours and of plain are followed step by step."""
+
+    def __init__(self, row, period):
+        self.row, self.period = row, period
+        self.seconds, self.count, ours = measured('why', row.file, str(period))
+        self.plain_seconds, self.plain_count, plain = measured('plain_why', row.file, str(period))
+        assert (ours[0] == '1') == (plain[0] == '1') == (period < row.two), row.name
+        for answer in ours, plain:
+            self.follow(*map(int, answer))
+        self.steps = int(ours[2]) + int(ours[3])
+
+    def follow(self, blocked, register, first, second, *steps):
+        if blocked:
+            assert 1 <= min(first, second) and max(first, second) <= 2 * self.row.n - 1 and len(steps) == first + second, self.row.name
+            assert self.led((register, 0), steps[:first]) == (register, 1), self.row.name
+            assert self.led((register, 1), steps[first:]) == (register, 0), self.row.name
+
+    def led(self, node, steps):
+        """Where steps lead from a register with a choice: each breaks a rule, and forces the opposite choice on its other end."""
+        _, pairs = self.row.counted_in
+        offset = max(0, self.row.common - self.period)
+        for step in steps:
+            a, b, least, greatest = pairs[step // 4]
+            launch, capture = (a, step // 2 % 2), (b, step % 2)
+            later = (capture[1] - launch[1]) * offset
+            assert (greatest > self.period + later or later > least) and node in (launch, capture), self.row.name
+            a, late = capture if node == launch else launch
+            node = a, 1 - late
+        return node
+
+    def fewer(self):
+        return self.plain_count / self.count
+
+    def cells(self):
+        return million(self.count), million(self.plain_count), micro(self.seconds), micro(self.plain_seconds)
+
+
+class Whys:
+    """The period just below the two-timing one, where nothing works, and the common period, where all early does."""
+
+    def __init__(self, row):
+        self.row = row
+        self.below = Why(row, row.two - 1) if row.two > 1 else None
+        self.common = Why(row, row.common)
+        print(self.line(), flush=True)
+
+    def both(self):
+        return [why for why in (self.below, self.common) if why]
+
+    def line(self):
+        r = self.row
+        below = (*self.below.cells(), self.below.steps) if self.below else ('',) * 5
+        return table_row(r.name, r.n, r.m, r.common, r.two, *below, *self.common.cells())
+
+
+WHY_HEAD = ('list', 'registers', 'pairs', 'common', 'two', 'below two: ours, million instructions', 'plain', 'ours, µs', 'plain', 'steps of ours',
+            'at common: ours, million instructions', 'plain', 'ours, µs', 'plain')
+
+
 def growth(unit, rows):
     head = (unit, 'ours, million instructions', 'plain', 'ours, µs', 'plain')
     return table(head, [table_row(size, million(r.count), million(r.plain_count), micro(r.seconds), micro(r.plain_seconds))
@@ -203,6 +265,12 @@ def main():
     since = [row for row in every if row.since_needs() > 1]
     most_since = max(every, key=Row.since_needs)
     most_needy, most_counted = max(with_needs, key=Needy.more), max(with_needs, key=Needy.more_than_counted_in)
+    whys = [Whys(row) for row in every + [needy.row for needy in with_needs]]
+    each_why = [why for two in whys for why in two.both()]
+    most_why = max(each_why, key=lambda why: why.count)
+    large_whys = [why for why in each_why if why.row.n >= 100]
+    least_why, top_why = min(large_whys, key=Why.fewer), max(large_whys, key=Why.fewer)
+    mean_why = sum(map(Why.fewer, large_whys)) / len(large_whys)
     ones = Row('delays of 0 and 1', lists.ones(512, 2048, 14))
     few_ones = Row('delays of 0 and 1, 100 registers', lists.ones(100, 242, 14))
     faster = min(row.faster() for row in circuits + shapes if row.n >= 100)
@@ -230,6 +298,10 @@ def main():
         'MOST_NEEDY': f'{most_needy.more():.2f}', 'MOST_NEEDY_LIST': most_needy.name,
         'MOST_COUNTED': f'{most_counted.more_than_counted_in():.2f}', 'MOST_COUNTED_LIST': most_counted.name,
         'SINCE': len(since), 'SINCE_OF': len(every), 'MOST_SINCE': f'{most_since.since_needs():.2f}', 'MOST_SINCE_LIST': most_since.name,
+        'WHY': table(WHY_HEAD, [two.line() for two in whys if two.row in shapes + hard or two.row in circuits and two.row.n >= 100]),
+        'WHY_OF': len(whys), 'WHY_MOST': million(most_why.count), 'WHY_MOST_LIST': most_why.row.name, 'WHY_MICRO': micro(most_why.seconds),
+        'WHY_LEAST': f'{least_why.fewer():.2f}', 'WHY_LEAST_LIST': least_why.row.name, 'WHY_MEAN': f'{mean_why:.2f}',
+        'WHY_TOP': f'{top_why.fewer():.2f}', 'WHY_TOP_LIST': top_why.row.name,
         'STACK': stack(every + [needy.row for needy in with_needs]),
     }.items():
         text = text.replace('{' + key + '}', str(value))

@@ -17,7 +17,7 @@ static uint64_t *top;
 static ucontext_t caller, callee;
 
 static uint32_t words[DARNERFLAX_MAX_WORDS], numbers[DARNERFLAX_MAX_NUMBERS], written[DARNERFLAX_MAX_WORDS];
-static uint32_t answer[2 * DARNERFLAX_MAX_REGISTERS], scratch[DARNERFLAX_MAX_SCRATCH];
+static uint32_t answer[DARNERFLAX_MAX_CHAINS], scratch[DARNERFLAX_MAX_SCRATCH];
 static uint64_t counts[DARNERFLAX_REPLY], periods[DARNERFLAX_REPLY], plan[DARNERFLAX_REPLY], reply[DARNERFLAX_REPLY];
 static uint8_t text[DARNERFLAX_TEXT];
 static size_t count;
@@ -54,6 +54,16 @@ static uint32_t split(void) {
     return refused != 0 || two == 1 ? refused : split_at(two - 1);
 }
 
+static uint32_t why_at(uint64_t period) {
+    return darnerflax_why_not(words, count, (uint32_t)period, answer, DARNERFLAX_MAX_CHAINS, scratch, DARNERFLAX_MAX_SCRATCH, reply);
+}
+
+/* A period that works, and, below the two-timing period, one that does not. */
+static uint32_t why_not(void) {
+    uint32_t refused = why_at(plan[1]);
+    return refused != 0 || plan[3] == 1 ? refused : why_at(plan[3] - 1);
+}
+
 static uint32_t report(void) {
     return darnerflax_report((const uint8_t *)words, 4 * count, text) == 0;
 }
@@ -65,7 +75,7 @@ static struct job {
     size_t most;
 } jobs[] = {
     {"read", read_list, 0}, {"write", write_list, 0}, {"free", free_schedule, 0}, {"check", check, 0},
-    {"plan", full_plan, 0}, {"split", split, 0},      {"report", report, 0},
+    {"plan", full_plan, 0}, {"split", split, 0},      {"why_not", why_not, 0},    {"report", report, 0},
 };
 #define JOBS (sizeof jobs / sizeof jobs[0])
 static struct job *job;

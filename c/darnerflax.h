@@ -17,7 +17,7 @@
  *
  * Status and reply tell one answer of the job, and all that the job promises of it is proved of the C function too:
  * a plan that nobody beats, a list that reads back as it was written, a check that passes the admissible schedules
- * and no other and reports the smallest margin of all.
+ * and no other and reports the smallest margin of all, chains that show why a period can't be had.
  *
  * n is the count of registers (1 to 512), m the count of pairs (0 to 2,048). Times are in picoseconds: delays up to
  * 1,000,000, needs up to 9,999, periods and offsets up to 1,009,999, timings up to 516,109,489.
@@ -32,7 +32,7 @@
  * pair, and an end word: 3m + 2 words without needs, 3m + 2 + n with them.
  *
  * No memory is allocated. The most stack that a call was seen to take, in bytes, rounded up (docs/BENCHMARKS.md):
- * read 200, write 100, check 300, free 20,000, split 400, plan 21,000, report 97,000.
+ * read 200, write 100, check 300, free 20,000, split 400, plan 21,000, why_not 12,000, report 97,000.
  */
 #ifndef DARNERFLAX_H
 #define DARNERFLAX_H
@@ -56,6 +56,8 @@ extern "C" {
 #define DARNERFLAX_MAX_NUMBERS (4 * DARNERFLAX_MAX_PAIRS + 2 * DARNERFLAX_MAX_REGISTERS)
 /* places of scratch that are enough for any list */
 #define DARNERFLAX_MAX_SCRATCH (6 * DARNERFLAX_MAX_REGISTERS + 4 * DARNERFLAX_MAX_PAIRS)
+/* places that are enough for the chains of any list, which darnerflax_why_not stores */
+#define DARNERFLAX_MAX_CHAINS (4 * DARNERFLAX_MAX_REGISTERS)
 /* bytes that darnerflax_report asks for */
 #define DARNERFLAX_TEXT 32768
 
@@ -119,6 +121,24 @@ uint32_t darnerflax_plan(const uint32_t *words, size_t words_len,
                          uint32_t *answer, size_t answer_len,
                          uint32_t *scratch, size_t scratch_len,
                          uint64_t reply[DARNERFLAX_REPLY]);
+
+/* Why no split works at a period, whatever its offset.
+ * Value: 0 if some split works with some offset, `answer` is then kept whole. Else four values: 1, a register, and the
+ * lengths of two chains of forced choices at it. The first chain leads from the register early to it late, the second from
+ * late back to early, so that it can be neither; each has from 1 to 2n - 1 steps. The steps of the first fill the first
+ * places of `answer`, those of the second the next; later places are kept. A step is 4 times a pair's index plus a row:
+ *   0 launch and capture early, 1 launch early and capture late, 2 launch late and capture early, 3 both late
+ * With these choices the pair breaks a rule at the offset common - period, or 0 if that is negative. One end with its
+ * choice is where the chain stands; the other end then has the opposite choice, from which the next step goes on. Which
+ * chains are shown, of several, is left open.
+ * Either way the first 6n + 4m places of `scratch` are left zero; later places are kept. Refusals, also where some split
+ * works: 11 to 19; 3 for a period outside 1 to 1,009,999; 2 for fewer than 4n places; 1 for fewer than 6n + 4m places of
+ * scratch. */
+uint32_t darnerflax_why_not(const uint32_t *words, size_t words_len,
+                            uint32_t period,
+                            uint32_t *answer, size_t answer_len,
+                            uint32_t *scratch, size_t scratch_len,
+                            uint64_t reply[DARNERFLAX_REPLY]);
 
 /* The text of the plan of a list's bytes (four to a word, the lowest first), or of its refusal: what the program
  * `plan` prints. The text fills the first places of `text`, later ones are kept; the count of its bytes is returned.

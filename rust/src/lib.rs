@@ -31,6 +31,11 @@ pub const fn scratch_places(registers: usize, pairs: usize) -> usize {
     6 * registers + 4 * pairs
 }
 
+/// The places that [`why_not`] asks for, for a list of so many registers.
+pub const fn chain_places(registers: usize) -> usize {
+    4 * registers
+}
+
 /// Why a call was refused, and the place, counted from 0, that is at fault.
 #[derive(Clone, Copy, Debug, PartialEq, Eq)]
 pub struct Refusal {
@@ -127,6 +132,31 @@ pub struct Plan {
     pub offset: u32,
 }
 
+/// Whether some split works at a period with any offset. If none does, two chains of forced choices at a register, which lie
+/// in the answer buffer: the first leads from the register early to it late, the second from late back to early. Each number of
+/// a chain is a [`Step`].
+#[derive(Clone, Copy, Debug, PartialEq, Eq)]
+pub enum Reason<'a> {
+    Workable,
+    Blocked { register: u32, first: &'a [u32], second: &'a [u32] },
+}
+
+/// A step of a chain: a pair, and a choice for each of its ends with which it breaks a rule. Where the chain stands at one end
+/// with its choice, the other end has to have the opposite one, and there the chain goes on.
+#[derive(Clone, Copy, Debug, PartialEq, Eq)]
+pub struct Step {
+    pub pair: usize,
+    pub launch_late: bool,
+    pub capture_late: bool,
+}
+
+impl Step {
+    /// The step of a number: 4 times the pair's index, 2 more for a late launch, 1 more for a late capture.
+    pub fn of(number: u32) -> Step {
+        Step { pair: (number / 4) as usize, launch_late: number / 2 % 2 == 1, capture_late: number % 2 == 1 }
+    }
+}
+
 type Reply = [u64; REPLY_PLACES];
 
 extern "C" {
@@ -164,6 +194,16 @@ extern "C" {
     fn darnerflax_plan(
         words: *const u32,
         words_len: usize,
+        answer: *mut u32,
+        answer_len: usize,
+        scratch: *mut u32,
+        scratch_len: usize,
+        reply: *mut Reply,
+    ) -> u32;
+    fn darnerflax_why_not(
+        words: *const u32,
+        words_len: usize,
+        period: u32,
         answer: *mut u32,
         answer_len: usize,
         scratch: *mut u32,
@@ -277,6 +317,29 @@ pub fn plan(words: &[u32], answer: &mut [u32], scratch: &mut [u32]) -> Result<Pl
         )
     })?;
     Ok(Plan { common: common as u32, free: free as u32, two: two as u32, offset: offset as u32 })
+}
+
+/// Why no split works at a period, whatever its offset: the chains fill the first places of `answer`, which takes 4n places. The
+/// first 6n + 4m places of `scratch` are left zero.
+pub fn why_not<'a>(words: &[u32], period: u32, answer: &'a mut [u32], scratch: &mut [u32]) -> Result<Reason<'a>, Refusal> {
+    // SAFETY: as for `read`.
+    let [_, blocked, register, first, second, ..] = told(|reply| unsafe {
+        darnerflax_why_not(
+            words.as_ptr(),
+            words.len(),
+            period,
+            answer.as_mut_ptr(),
+            answer.len(),
+            scratch.as_mut_ptr(),
+            scratch.len(),
+            reply,
+        )
+    })?;
+    if blocked == 0 {
+        return Ok(Reason::Workable);
+    }
+    let (first, rest) = answer.split_at(first as usize);
+    Ok(Reason::Blocked { register: register as u32, first, second: &rest[..second as usize] })
 }
 
 /// The text of the plan of a list's bytes, or of its refusal, in the first places of `text`. The count of its bytes is returned.

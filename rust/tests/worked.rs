@@ -108,6 +108,52 @@ fn splits_of_p() {
     }
 }
 
+/// P at 6, where the offset is 4: register 1 early makes 0 late (pair 0 is too slow for both early), and 0 late makes 1 late (it
+/// is too slow from late to early as well); 1 late makes 0 late (pair 1 is too slow from late to early), and 0 late makes 1 early
+/// (pair 0 is too slow for both late).
+#[test]
+fn what_blocks_p() {
+    let (mut answer, mut scratch) = ([9; 9], [9; 21]);
+    let told = why_not(&P, 6, &mut answer, &mut scratch);
+    assert_eq!(told, Ok(Reason::Blocked { register: 1, first: &[0, 2], second: &[6, 3] }));
+    assert_eq!((answer, scratch[..20] == [0; 20], scratch[20]), ([0, 2, 6, 3, 9, 9, 9, 9, 9], true, 9));
+    assert_eq!(Step::of(6), Step { pair: 1, launch_late: true, capture_late: false });
+    assert_eq!(
+        [0, 1, 3].map(Step::of).map(|s| (s.pair, s.launch_late, s.capture_late)),
+        [(0, false, false), (0, false, true), (0, true, true)]
+    );
+    for period in [7, 10, 1_009_999] {
+        let mut answer = [9; 8];
+        assert_eq!(why_not(&P, period, &mut answer, &mut [9; 20]), Ok(Reason::Workable));
+        assert_eq!(answer, [9; 8]);
+    }
+    assert!(matches!(why_not(&NEEDY, 7, &mut [0; 8], &mut [0; 20]), Ok(Reason::Blocked { .. })));
+    assert_eq!(why_not(&NEEDY, 8, &mut [0; 8], &mut [0; 20]), Ok(Reason::Workable));
+}
+
+/// A pair that joins a register to itself blocks alone; without pairs every period works.
+#[test]
+fn what_blocks_one_register() {
+    let one = list(1, &[0, 0, 0, 5]);
+    assert_eq!(why_not(&one, 4, &mut [0; 4], &mut [0; 10]), Ok(Reason::Blocked { register: 0, first: &[0], second: &[3] }));
+    assert_eq!(why_not(&one, 5, &mut [0; 4], &mut [0; 10]), Ok(Reason::Workable));
+    assert_eq!(why_not(&list(3, &[]), 1, &mut [0; 12], &mut [0; 18]), Ok(Reason::Workable));
+}
+
+/// 3 comes before 2 and 2 before 1, also where some split works, and nothing is changed.
+#[test]
+fn reasons_refused() {
+    let refused = |period, room: usize, spare: usize| {
+        let (mut answer, mut scratch) = (vec![9; room], vec![9; spare]);
+        let number = why_not(&P, period, &mut answer, &mut scratch).unwrap_err().number;
+        assert!(answer.iter().chain(&scratch).all(|place| *place == 9));
+        number
+    };
+    assert_eq!([refused(0, 7, 19), refused(1_010_000, 7, 19)], [3, 3]);
+    assert_eq!([refused(6, 7, 19), refused(7, 7, 19), refused(7, 7, 20)], [2, 2, 2]);
+    assert_eq!([refused(6, 8, 19), refused(7, 8, 19)], [1, 1]);
+}
+
 #[test]
 fn edges_of_a_list() {
     let one = |n, four: [u32; 4]| write(n, &four, &[0; 4], &mut [0; 5]).map_err(|refusal| refusal.number);
@@ -137,6 +183,7 @@ fn nothing_lent() {
     assert_eq!(free(&[], &mut []), Err(short));
     assert_eq!(split(&[], 1, 0, &mut [], &mut []), Err(short));
     assert_eq!(plan(&[], &mut [], &mut []), Err(short));
+    assert_eq!(why_not(&[], 1, &mut [], &mut []), Err(short));
     let mut text = [b'.'; TEXT_PLACES];
     let count = report(&[], &mut text);
     assert_eq!(&text[..count], b"refused 11 at 0\n");

@@ -42,6 +42,11 @@ use Rattle.split.specs.declared.Splitting.the-variants.{Split, NoSplit, Refused
 use Rattle.planner.specs.PlanCall.{planning, planReply, PlanAs}
 use Rattle.planner.specs.declared.Planning.{Planning}
 use Rattle.planner.specs.declared.Planning.the-variants.{Planned, Refused as NotPlanned}
+use Rattle.plan_laws.specs.Plan.{twoWorks}
+use Rattle.chain_laws.specs.Chains.{Chains}
+use Rattle.blocking.specs.Blocking.{whyNot, whyOutcome, whyReply, WhyAs}
+use Rattle.blocking.specs.declared.Reason.{Reason}
+use Rattle.blocking.specs.declared.Reason.the-variants.{Workable, Blocked, Refused as NotShown}
 use Rattle.planner_c.specs.Coded.{resultStatus, valuePlaces, Coded, AnswerCoded}
 use Rattle.planner_c.proofs.ToldLaws.{coded-reply}
 use Rattle.planner_c.proofs.Apart.{Tellable, replyFrom, answerBy, Telling, telling, promised-read}
@@ -146,6 +151,15 @@ pub plan-told : (ws : List ℕ) (room spare : ℕ) → Tellable (replyOf (planni
 unfolding planning numbered
 plan-told ws room spare = list-then ws _ _ refl (done-told _ _ (omega arith))
 
+reason-told : (yes : Bool) (x : Chains) → Tellable (replyOf (whyOutcome yes x))
+unfolding whyOutcome
+reason-told true x = done-told _ _ (omega arith)
+reason-told false x = done-told _ _ (omega arith)
+
+pub why-told : (ws : List ℕ) (period room spare : ℕ) (x : Chains) → Tellable (replyOf (whyNot ws period room spare x))
+unfolding whyNot numbered
+why-told ws period room spare x = list-then ws _ _ refl (reason-told (twoWorks (registers ws) (pairs ws) period) x)
+
 -- ---- the answer from its numbers, and what a caller reads
 
 unfoldable pub readAnswer : Reply → Reading
@@ -223,6 +237,18 @@ plan-telling {ws} {answer} {scratch = scratch} =
     telling (λ a p. elim a [ Planned common free two offset ↦ refl | NotPlanned number place ↦ refl ])
     (plan-told ws (length answer) (length scratch)) (λ a p. p .reply)
 
+unfoldable pub whyAnswer : Reply → Reason
+whyAnswer = answerBy NotShown (λ xs. cond (eqb (getD xs 0 0) 0) Workable (Blocked (getD xs 1 0) (getD xs 2 0) (getD xs 3 0)))
+
+-- whichever chains are shown
+pub why-telling : {ws : List ℕ} {period : ℕ} {answer answer′ scratch scratch′ : List ℕ}
+    → Telling whyReply whyAnswer (WhyAs ws period answer answer′ scratch scratch′)
+unfolding whyReply whyAnswer answerBy
+why-telling {ws} {period} {answer} {scratch = scratch} = record {
+  known = λ a p. elim a [ Workable ↦ refl | Blocked register first second ↦ refl | NotShown number place ↦ refl ];
+  tellable = λ a p. rw (p .reply) (why-told ws period (length answer) (length scratch) (p .chains));
+}
+
 -- ---- for one, what a caller of the plan has
 
 module _ {ws answer answer′ scratch scratch′ : List ℕ} where
@@ -246,3 +272,13 @@ module _ {ws : List ℕ} {t : ℕ} {s : List ℕ} where
       → CheckedAs ws t s (Admissible (smallestOf w k rule))
   unfolding replyFrom checkAnswer answerBy
   check-read w = promised-read check-telling w
+
+-- ---- and of the reason for a period: chains that block it
+
+module _ {ws : List ℕ} {period : ℕ} {answer answer′ scratch scratch′ : List ℕ} where
+  pub why-read : {register first second : ℕ}
+      → AnswerCoded whyReply (WhyAs ws period answer answer′ scratch scratch′) resultStatus
+      (4 ∷ 1 ∷ register ∷ first ∷ second ∷ 0 ∷ 0 ∷ 0 ∷ 0 ∷ [])
+      → WhyAs ws period answer answer′ scratch scratch′ (Blocked register first second)
+  unfolding replyFrom whyAnswer answerBy
+  why-read w = promised-read why-telling w

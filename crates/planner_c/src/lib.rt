@@ -1,4 +1,4 @@
-// The five jobs for C and Rust: plain numbers, slices as pointer and length, and a reply of nine places.
+// The six jobs for C and Rust: plain numbers, slices as pointer and length, and a reply of nine places.
 // Each contract is the job's own record, of the answer that status and reply tell (`specs/Coded.antt`).
 // `proofs/Apart.antt` proves that no two answers of a job are told alike, so that the record holds of what the caller reads.
 ghost use mathlib.Core.Path.{_≡_};
@@ -11,9 +11,11 @@ ghost use Rattle.checker.specs.declared.Checking.the-variants.{Admissible, Brok
 ghost use Rattle.free_schedule.specs.FreeCall.{freeReply, FreeAs};
 ghost use Rattle.split.specs.Splitting.{splitReply, SplitAs};
 ghost use Rattle.planner.specs.PlanCall.{planReply, PlanAs};
+ghost use Rattle.blocking.specs.Blocking.{whyReply, WhyAs};
 ghost use Rattle.text_pieces.specs.Pieces.{Put};
 ghost use Rattle.report.specs.Report.{textPlaces, report};
 ghost use Rattle.planner_c.specs.Coded.{resultStatus, placesOf, AnswerCoded};
+use blocking::Reason;
 use checker::Checking;
 use checker::Rule;
 use checker::Smallest;
@@ -38,6 +40,11 @@ const HOLD: u64 = 1;
 const NO_SPLIT: u64 = 0;
 
 const SPLIT: u64 = 1;
+
+// The first value of the reason for a period: whether chains are shown.
+const WORKABLE: u64 = 0;
+
+const BLOCKED: u64 = 1;
 
 // The reply of a result: how many values, and the first five of them; no job has more. The status of a result is returned.
 fn tell(reply: &mut [u64; REPLY_PLACES], count: u64, a: u64, b: u64, c: u64, d: u64, e: u64) -> u32
@@ -208,6 +215,35 @@ pub extern "C" fn darnerflax_plan(
             free as u64,
             two as u64,
             offset as u64,
+            0,
+        ),
+    }
+}
+
+// Why no split works at a period, whatever its offset. Reply: 1, a register, and the lengths of the two chains of forced choices that show it
+// can be neither early nor late, whose steps fill the first places of `answer`; or 0 if some split works.
+#[no_mangle]
+pub extern "C" fn darnerflax_why_not(
+    words: &[u32],
+    period: u32,
+    answer: &mut [u32],
+    scratch: &mut [u32],
+    reply: &mut [u64; REPLY_PLACES],
+) -> u32
+    ensures { λ r. ⌜ AnswerCoded whyReply
+        (WhyAs (now (words .entry)) period (now (answer .entry)) (now (answer .exit)) (now (scratch .entry)) (now (scratch .exit)))
+        r (now (reply .exit)) ⌝ }
+{
+    match blocking::why_not(words, period, answer, scratch) {
+        Reason::Refused(number, place) => refuse(reply, number, place),
+        Reason::Workable => tell(reply, 1, WORKABLE, 0, 0, 0, 0),
+        Reason::Blocked(register, first, second) => tell(
+            reply,
+            4,
+            BLOCKED,
+            register as u64,
+            first as u64,
+            second as u64,
             0,
         ),
     }

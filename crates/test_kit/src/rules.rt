@@ -15,7 +15,7 @@ pub fn at(xs: &[u32], i: usize) -> u32 {
 }
 
 // Number j of pair k, of as many pairs as a list can have.
-fn number(numbers: &[u32], k: usize, j: usize) -> u32 {
+pub fn number(numbers: &[u32], k: usize, j: usize) -> u32 {
     at(numbers, 4 * (k % MAX_PAIRS) + j % 4)
 }
 

@@ -227,6 +227,59 @@ pub fn split_at(output: i32, errors: i32) {
     }
 }
 
+// ---- why_not
+
+fn why_usage(to: i32, errors: i32) {
+    write_out(to, b"use: why_not PERIOD [FILE]\n", errors);
+    write_out(
+        to,
+        b"Prints workable if some split of the delay list in FILE, or on standard input, works at the period, in whole picoseconds, with\n",
+        errors,
+    );
+    write_out(
+        to,
+        b"any offset; else what blocks the period: a register, and step by step the choices that force it from early to late and back.\n",
+        errors,
+    );
+}
+
+fn why_received(bytes: &[u8; MAX_BYTES + 1], got: usize, period: u32, output: i32, errors: i32) {
+    let mut text = [0u8; why_text::TEXT_PLACES];
+    let said = why_text::why_text(streams::list_received(bytes, got), period, &mut text);
+    say(&text, said, output, errors);
+}
+
+pub fn why_from(input: i32, name: &[u8], period: u32, output: i32, errors: i32) {
+    let mut bytes = [0u8; MAX_BYTES + 1];
+    match streams::receive(input, name, &mut bytes, errors) {
+        Got::Nothing => {}
+        Got::Bytes(got) => why_received(&bytes, got, period, output, errors),
+    }
+}
+
+// With the period as an argument.
+fn why_given(input: i32, name: &[u8], output: i32, errors: i32) {
+    match arguments::number(1) {
+        Argument::Wrong => why_usage(errors, errors),
+        Argument::Number(period) => why_from(input, name, period, output, errors),
+    }
+}
+
+pub fn why_not(output: i32, errors: i32) {
+    let mut path = [0u8; PATH_MAX];
+    match streams::input_of(1, &mut path, errors) {
+        Source::Nothing => {}
+        Source::Help => why_usage(output, errors),
+        Source::Misused => why_usage(errors, errors),
+        Source::Given(input, size) => why_given(
+            input,
+            streams::name_of(&path, size),
+            output,
+            errors,
+        ),
+    }
+}
+
 // ---- check_schedule
 
 fn check_usage(to: i32, errors: i32) {

@@ -1,8 +1,9 @@
 // The programs on what they refuse or find wrong: texts that are empty, faulty, cut at the end of a line, or name register 2 of 2; needs
 // after a pair, too large, above a least delay, or of one register of two; lists that are refused, and two that are shown, without
 // needs and with them; no split; schedules that break hold and setup, are faulty, have a timing too few or one too large; schedules with
-// margins of each sign, and of a list without pairs; periods and offsets out of range; a text that is too long, a directory, output that
-// cannot be written, and no arguments. Then texts without needs, with needs in the last line, and of the largest size, with commas.
+// margins of each sign, and of a list without pairs; periods and offsets out of range; a period that works, and one that is blocked by a
+// hold rule too; a text that is too long, a directory, output that cannot be written, and no arguments. Then texts without needs, with
+// needs in the last line, and of the largest size, with commas.
 use libc::STDOUT_FILENO;
 use text_programs::check_from;
 use text_programs::make_from;
@@ -22,6 +23,16 @@ fn split(period: u32, offset: u32) {
         b"list",
         period,
         offset,
+        STDOUT_FILENO,
+        STDOUT_FILENO,
+    );
+}
+
+fn why(list: &[u8], period: u32) {
+    text_programs::why_from(
+        os::open_read(list),
+        list,
+        period,
         STDOUT_FILENO,
         STDOUT_FILENO,
     );
@@ -98,13 +109,24 @@ fn margins() {
     check(b"pairless", 7, b"met");
 }
 
+fn reasons() {
+    why(b"list", 7);
+    why(b"pairless", 1);
+    why(b"blocked", 6);
+    why(b"list", 0);
+    why(b"list", 1_010_000);
+    why(b"refused", 7);
+}
+
 fn main() {
     texts();
     needs();
     lists();
     schedules();
     margins();
+    reasons();
     text_programs::split_at(STDOUT_FILENO, STDOUT_FILENO);
+    text_programs::why_not(STDOUT_FILENO, STDOUT_FILENO);
     text_programs::check_schedule(STDOUT_FILENO, STDOUT_FILENO);
     make(b"plain");
     make(b"last");

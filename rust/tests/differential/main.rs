@@ -4,6 +4,7 @@ mod lent;
 mod lists;
 mod plans;
 mod random;
+mod reasons;
 mod reference;
 mod reports;
 mod schedules;

@@ -127,7 +127,7 @@ fn mix(random: &mut Random, needs: &mut Vec<Need>, pairs: &mut [Pair]) {
     names.iter().zip(before).for_each(|(name, need)| needs[*name] = need);
 }
 
-fn shuffle<T>(random: &mut Random, xs: &mut [T]) {
+pub fn shuffle<T>(random: &mut Random, xs: &mut [T]) {
     for i in (1..xs.len()).rev() {
         xs.swap(i, random.below(i + 1));
     }
