@@ -1,11 +1,11 @@
 -- The two chains of a pair that clashes: they lead where they have to, and no further than they may.
 -- The path has no more steps than there are registers deeper than a root. The root that it ends at is one register that is not, and where the
 -- capture of the pair is another root, that is a second.
-use mathlib.Core.Path.{_≡_, refl, sym, ap, _∙_, subst}
+use mathlib.Core.Path.{_≡_, refl, _∙_, subst}
 use mathlib.Core.Logic.{_⊎_, inl, inr}
 use mathlib.Core.Bool.{Bool, true, false, cond}
 use mathlib.Core.List.{List, [], _∷_, _++_}
-use Prim.Native.Nat.{ℕ, zero, suc, _+_, _-_, _*_, _/_, _%_, _≤_, _<_}
+use Prim.Native.Nat.{ℕ, _+_, _-_, _*_, _/_, _%_, _≤_, _<_}
 use native.Mathlib.Nat.{eq-or-lt-of-le}
 use native.Mathlib.Omega.{arith}
 use lib.Dec.{eqb}
@@ -20,12 +20,12 @@ use Rattle.split_laws.specs.Choices.{brokenRow}
 use Rattle.propagate.specs.Store.{flagsFrom, Recorded}
 use Rattle.chain_laws.specs.Chains.{node, leads, ChainSize, Blocks}
 use Rattle.chain_laws.proofs.ChainLaws.{Step, leads-none, leads-step, leads-then}
-use Rattle.forced_late.specs.Forest.{earlyEarly, lateEarly, lateLate, depthOf, stepTo, inner, Root, Forest}
+use Rattle.forced_late.specs.Forest.{earlyEarly, lateEarly, lateLate, depthOf, stepTo, inner, Root}
 use Rattle.forced_late.proofs.ForestLaws.{ends-in, inner-root, inner-roots}
-use Rattle.blocking.specs.Paths.{ancestor, heightOf, rootOf, pathUp, pathDown, firstChain, secondChain, chainsOf, Late, Clashing}
+use Rattle.blocking.specs.Paths.{heightOf, rootOf, pathUp, pathDown, secondChain, chainsOf, Late, Clashing}
 use Rattle.blocking.proofs.StepLaws.{recorded-broken, broken-recorded, late-late-early, late-late-first, early-early-late}
 use Rattle.blocking.proofs.StepLaws.{by-early-early, by-late-early, back-late-early, by-late-late}
-use Rattle.blocking.proofs.PathLaws.{Up, up, up-root, path-up, path-down}
+use Rattle.blocking.proofs.PathLaws.{up, up-root, path-up, path-down}
 
 pub path-size : (f : ℕ → ℕ) (d : ℕ) → length (run (λ i. f i ∷ []) d) ≡ d
 path-size f d = run-length (λ i. f i ∷ []) 1 (λ i. refl) d ∙ omega arith

@@ -1,19 +1,18 @@
 -- The path from a late register up to its root: at each step the depth is one less, so it ends at a root, and its steps lead
 -- down from the late root to the late register, and up from the early register to the early root.
-use mathlib.Core.Path.{_≡_, refl, sym, ap, _∙_, subst}
+use mathlib.Core.Path.{_≡_}
 use mathlib.Core.Logic.{_⊎_, inl, inr}
-use mathlib.Core.Bool.{Bool, true, false}
-use mathlib.Core.List.{List, [], _∷_, _++_}
-use Prim.Native.Nat.{ℕ, zero, suc, _+_, _-_, _*_, _/_, _%_, _≤_, _<_}
+use mathlib.Core.Bool.{true, false}
+use mathlib.Core.List.{List, [], _∷_}
+use Prim.Native.Nat.{ℕ, zero, suc, _+_, _-_, _≤_, _<_}
 use native.Mathlib.Omega.{arith}
-use lib.ListN.{length, getD, take, drop}
-use Rattle.timing.specs.Limits.{perPair}
+use lib.ListN.{drop}
 use Rattle.buffers.specs.Run.{run}
 use Rattle.list_format.specs.Lists.{pairs}
 use Rattle.propagate.specs.Store.{flagsFrom, Recorded}
 use Rattle.chain_laws.specs.Chains.{node, leads}
 use Rattle.chain_laws.proofs.ChainLaws.{Step, step-back, leads-none, leads-step, leads-then}
-use Rattle.forced_late.specs.Forest.{depthOf, stepTo, sourceOf, Root, Child, Forest, Growing}
+use Rattle.forced_late.specs.Forest.{depthOf, stepTo, Root, Child}
 use Rattle.forced_late.proofs.ForestLaws.{source-in}
 use Rattle.blocking.specs.Paths.{ancestor, stepUp, heightOf, rootOf, pathUp, pathDown, Late}
 use Rattle.blocking.proofs.StepLaws.{child-step}

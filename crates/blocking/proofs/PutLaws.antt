@@ -1,20 +1,20 @@
 -- The two chains of a pair that clashes, as they are stored: what each routine asks for, and what they come to together.
-use mathlib.Core.Path.{_≡_, refl, sym, ap, _∙_, subst}
+use mathlib.Core.Path.{_≡_, sym, ap, _∙_}
 use mathlib.Core.Bool.{Bool, true, false, cond}
 use mathlib.Core.List.{List, [], _∷_, _++_}
 use Prim.Native.Nat.{ℕ, _+_, _-_, _*_, _/_, _%_, _≤_, _<_}
 use native.Mathlib.Omega.{arith}
 use lib.Dec.{eqb}
 use lib.ListN.{length, getD, take, drop, length-append, length-drop}
-use Rattle.timing.specs.Limits.{perPair, maxRegisters, maxPairs, scratchPlaces}
+use Rattle.timing.specs.Limits.{perPair, maxRegisters, maxPairs}
 use Rattle.buffers.specs.Over.{over}
 use Rattle.buffers.proofs.FillLaws.{over-more}
-use Rattle.list_format.specs.Lists.{pairCount, pairAt, PairIn}
+use Rattle.list_format.specs.Lists.{pairAt, PairIn}
 use Rattle.list_format.proofs.ListLaws.{pair-in, few-registers}
 use Rattle.forced_late.specs.Forest.{earlyEarly, lateEarly, lateLate, depthOf, stepTo, Root}
 use Rattle.forced_late.proofs.GrowLaws.{depth-few}
 use Rattle.blocking.specs.declared.Reason.the-variants.{Blocked}
-use Rattle.blocking.specs.Paths.{heightOf, rootOf, pathUp, pathDown, firstChain, chainBy, secondChain, chainsOf, Late, Traced, upward, downward, Clashing}
+use Rattle.blocking.specs.Paths.{heightOf, rootOf, firstChain, chainBy, chainsOf, Late, Traced, upward, downward, Clashing}
 use Rattle.blocking.specs.Blocking.{ChainsIn}
 use Rattle.blocking.proofs.PathLaws.{up-root}
 use Rattle.blocking.proofs.ChainsLaws.{path-size, launch-late, root-in, height-one}

@@ -1,25 +1,25 @@
 -- The steps of a forest as steps of a chain: what is recorded as broken is broken, and each step leads from a late register to a late one.
-use mathlib.Core.Path.{_≡_, refl, sym, ap, _∙_, subst}
+use mathlib.Core.Path.{_≡_, refl, sym, ap, _∙_}
 use mathlib.Core.Logic.{_⊎_, inl, inr}
 use mathlib.Core.Bool.{Bool, true, false, not, false≢true}
-use mathlib.Core.List.{List, [], _∷_}
-use Prim.Native.Nat.{ℕ, zero, suc, _+_, _*_, _/_, _%_, _≤_, _<_}
+use mathlib.Core.List.{List}
+use Prim.Native.Nat.{ℕ, zero, suc, _+_, _*_, _/_, _%_, _<_}
 use native.Mathlib.Omega.{arith}
 use lib.ListN.{length, getD, drop}
 use lib.Seq.{getD-drop}
-use borrow.Author.Tests.{not-true, not-false}
+use borrow.Author.Tests.{not-true}
 use Rattle.timing.specs.declared.Pair.{Pair}
 use Rattle.timing.specs.Limits.{perRegister, perPair}
 use Rattle.timing.proofs.RuleLaws.{test→met, met→test}
 use Rattle.list_format.specs.Lists.{pairCount, pairAt, pairsFrom, pairs}
-use Rattle.split_laws.specs.Split.{timeOf, meets, broken}
+use Rattle.split_laws.specs.Split.{meets, broken}
 use Rattle.split_laws.specs.Choices.{brokenRow, flag, flagAt}
 use Rattle.split_laws.proofs.ChoiceLaws.{late-launch, flag-one}
-use Rattle.propagate.specs.Store.{flagsFrom, fourAt, Recorded}
+use Rattle.propagate.specs.Store.{flagsFrom, Recorded}
 use Rattle.propagate.proofs.StoreLaws.{four-at}
-use Rattle.chain_laws.specs.Chains.{node, indexOf, rowOf, stepPair, launchLate, captureLate}
+use Rattle.chain_laws.specs.Chains.{node, launchLate, captureLate}
 use Rattle.chain_laws.proofs.ChainLaws.{Ends, ahead, back, Step}
-use Rattle.forced_late.specs.Forest.{earlyEarly, earlyLate, lateEarly, lateLate, IsBroken, sourceOf, targetOf, Root, Child}
+use Rattle.forced_late.specs.Forest.{earlyEarly, earlyLate, lateEarly, lateLate, IsBroken, sourceOf, Child}
 
 -- ---- the pairs of a list, as a list
 

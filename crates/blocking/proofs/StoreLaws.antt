@@ -1,8 +1,7 @@
 -- What is stored: the path in the scratch, and the chains in the answer buffer, piece by piece.
-use mathlib.Core.Path.{_≡_, refl, sym, ap, _∙_, subst}
-use mathlib.Core.Bool.{Bool, true, false, cond}
-use mathlib.Core.List.{List, [], _∷_, _++_, append-assoc, append-nil}
-use Prim.Native.Nat.{ℕ, zero, suc, _+_, _-_, _*_, _/_, _%_, _≤_, _<_}
+use mathlib.Core.Path.{_≡_, refl, sym, ap, _∙_}
+use mathlib.Core.List.{List, [], _∷_, _++_, append-assoc}
+use Prim.Native.Nat.{ℕ, suc, _+_, _-_, _*_, _/_, _≤_, _<_}
 use native.Mathlib.Omega.{arith}
 use lib.Dec.{eqb}
 use lib.ListN.{length, getD, take, drop, set, length-append, length-drop, List·getD-append}
@@ -16,9 +15,9 @@ use Rattle.buffers.proofs.PadLaws.{run-same}
 use Rattle.buffers.proofs.FillLaws.{Filled, filled-self, filled-size, filled-later, Filling, filling-start, filling-size, filling-end, filling-turn, set-put, over-more}
 use Rattle.list_format.specs.Lists.{pairCount, pairAt, PairIn}
 use Rattle.list_format.proofs.ListLaws.{few-registers}
-use Rattle.forced_late.specs.Forest.{lateEarly, lateLate, depthOf, stepTo, sourceOf}
+use Rattle.forced_late.specs.Forest.{lateEarly, lateLate, stepTo, sourceOf}
 use Rattle.forced_late.proofs.ForestLaws.{inner-most}
-use Rattle.blocking.specs.Paths.{ancestor, stepUp, heightOf, rootOf, pathUp, pathDown, firstChain, chainBy, Late, Traced, upward, downward}
+use Rattle.blocking.specs.Paths.{ancestor, stepUp, heightOf, pathUp, pathDown, firstChain, chainBy, Late, Traced, upward, downward}
 use Rattle.blocking.proofs.PathLaws.{up, up-child}
 use Rattle.blocking.proofs.ChainsLaws.{path-size}
 

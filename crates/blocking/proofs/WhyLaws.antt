@@ -1,10 +1,10 @@
 -- The ways that a call can end, each with the whole promise.
 -- A refusal changes nothing. Where no pair clashes, late where the forest is and early elsewhere is a split that works; where one clashes, its
 -- two chains block the period, so no split works.
-use Prim.Native.Nat.{ℕ, zero, suc, _+_, _-_, _*_, _/_, _%_, _≤_, _<_}
-use mathlib.Core.Bool.{Bool, true, false, not, false≢true}
-use mathlib.Core.Logic.{_⊎_, inl, inr}
-use mathlib.Core.List.{List, [], _∷_, _++_, map}
+use Prim.Native.Nat.{ℕ, zero, _+_, _-_, _*_, _/_, _%_, _≤_, _<_}
+use mathlib.Core.Bool.{Bool, true, false, not}
+use mathlib.Core.Logic.{inl, inr}
+use mathlib.Core.List.{List, [], _++_, map}
 use mathlib.Core.Path.{_≡_, refl, ap, sym, _∙_, subst}
 use native.Mathlib.Omega.{arith}
 use lib.Dec.{ltb}
@@ -36,12 +36,12 @@ use Rattle.chain_laws.specs.Chains.{Chains, Blocks}
 use Rattle.chain_laws.proofs.BlockLaws.{blocks-two, blocks-rival}
 use Rattle.propagate.specs.Store.{flagsFrom, Recorded, Lent, Prepared}
 use Rattle.propagate.proofs.StoreLaws.{lent-kept}
-use Rattle.forced_late.specs.Forest.{earlyEarly, earlyLate, lateEarly, lateLate, depthOf, IsBroken, AllForce, IsSeeded, Growing, Blank, ForcedLate, Clashes, ClashAt}
+use Rattle.forced_late.specs.Forest.{earlyEarly, earlyLate, lateEarly, lateLate, depthOf, IsBroken, AllForce, IsSeeded, Blank, ForcedLate, Clashes, ClashAt}
 use Rattle.forced_late.proofs.ForestLaws.{ends-in}
 use Rattle.blocking.specs.declared.Reason.{Reason}
 use Rattle.blocking.specs.declared.Reason.the-variants.{Workable, Blocked, Refused}
 use Rattle.blocking.specs.Paths.{chainsOf, Clashing}
-use Rattle.blocking.specs.Blocking.{whyCallChecks, whyChecks, whyOutcome, whyNot, whyReply, WorkingAt, BlockedBy, WhyAs, Ready, ChainsIn, WhyAllowed}
+use Rattle.blocking.specs.Blocking.{whyCallChecks, whyChecks, whyOutcome, whyNot, whyReply, BlockedBy, WhyAs, Ready, ChainsIn, WhyAllowed}
 use Rattle.blocking.proofs.StepLaws.{broken-recorded}
 use Rattle.blocking.proofs.ChainsLaws.{chains-block}
 

@@ -4,8 +4,8 @@ use mathlib.Core.Bool.{cond}
 use mathlib.Core.List.{List, [], _∷_, _++_}
 use Prim.Native.Nat.{ℕ, zero, suc, _+_, _-_, _*_, _/_, _≤_, _<_}
 use lib.Dec.{eqb}
-use lib.ListN.{length, getD, take, drop}
-use Rattle.timing.specs.Limits.{perPair, scratchPlaces}
+use lib.ListN.{length, getD, take}
+use Rattle.timing.specs.Limits.{perPair}
 use Rattle.buffers.specs.Run.{run}
 use Rattle.buffers.specs.Over.{over}
 use Rattle.list_format.specs.Lists.{pairCount, pairAt}

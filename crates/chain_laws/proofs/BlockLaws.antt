@@ -4,7 +4,7 @@
 use mathlib.Core.Bool.{Bool, true, false, not, false≢true}
 use mathlib.Core.List.{List, [], _∷_}
 use mathlib.Core.Path.{_≡_, refl, ap, sym, _∙_, subst}
-use Prim.Native.Nat.{ℕ, zero, suc, _+_, _-_, _*_, _/_, _%_, _≤_, _<_}
+use Prim.Native.Nat.{ℕ, zero, suc, _-_, _/_, _≤_, _<_}
 use native.Mathlib.Omega.{arith}
 use lib.ListN.{length, getD}
 use borrow.Author.Tests.{eqb-true}
@@ -19,8 +19,8 @@ use Rattle.split_laws.proofs.FoundLaws.{split-there}
 use Rattle.plan_laws.specs.Plan.{twoWorks}
 use Rattle.plan_laws.specs.Unbeaten.{RivalSplit}
 use Rattle.plan_laws.proofs.TwoLaws.{rival-there}
-use Rattle.chain_laws.specs.Chains.{node, indexOf, rowOf, stepPair, launchLate, captureLate, stands, next, leads, Chains, Blocks}
-use Rattle.chain_laws.proofs.ChainLaws.{Ends, ahead, back, Step, stands-step, node-is}
+use Rattle.chain_laws.specs.Chains.{node, indexOf, stepPair, launchLate, captureLate, stands, next, leads, Chains, Blocks}
+use Rattle.chain_laws.proofs.ChainLaws.{Ends, ahead, back, stands-step, node-is}
 
 -- the split has the node's choice at its register
 abbrev Has : List Bool → ℕ → Type 0

@@ -3,15 +3,15 @@
 -- to the opposite of x (`step-back`). Steps one after the other make a chain (`leads-step`, `leads-then`).
 use mathlib.Core.Bool.{Bool, true, false, not, cond, _&&_, _||_}
 use mathlib.Core.List.{List, [], _∷_, _++_}
-use mathlib.Core.Path.{_≡_, refl, ap, sym, _∙_, subst}
-use Prim.Native.Nat.{ℕ, zero, suc, _+_, _-_, _*_, _/_, _%_, _≤_, _<_}
+use mathlib.Core.Path.{_≡_, refl, ap, sym, _∙_}
+use Prim.Native.Nat.{ℕ, _+_, _-_, _<_}
 use native.Mathlib.Omega.{arith}
 use lib.Dec.{ltb, eqb}
-use lib.ListN.{length, getD}
+use lib.ListN.{length}
 use borrow.Author.Tests.{ltb-true, lt-ltb, eqb-true, eq-eqb}
 use Rattle.timing.specs.declared.Pair.{Pair}
 use Rattle.timing.proofs.RuleLaws.{and-true}
-use Rattle.split_laws.specs.Choices.{isLate, rowLaunch, rowCapture, brokenRow}
+use Rattle.split_laws.specs.Choices.{brokenRow}
 use Rattle.chain_laws.specs.Chains.{node, indexOf, rowOf, stepPair, launchLate, captureLate, stands, next, leads}
 
 -- ---- tests

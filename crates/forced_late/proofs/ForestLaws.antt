@@ -1,5 +1,5 @@
 -- A register more in the forest: it had no depth, so no other register came from it, and all that was there stays.
-use mathlib.Core.Path.{_≡_, refl, sym, ap, _∙_, subst}
+use mathlib.Core.Path.{_≡_, refl, sym, ap, _∙_}
 use mathlib.Core.Logic.{_⊎_, inl, inr}
 use mathlib.Core.Bool.{Bool, true, false, cond}
 use mathlib.Core.List.{List, [], _∷_}
@@ -13,7 +13,7 @@ use Rattle.timing.specs.Limits.{perRegister, perPair}
 use Rattle.list_format.specs.Lists.{pairCount, pairAt, UsableList}
 use Rattle.split_laws.specs.Marks.{unset}
 use Rattle.split_laws.proofs.MarkLaws.{unset-set}
-use Rattle.forced_late.specs.Forest.{depthOf, stepTo, IsBroken, isInner, inner, lateEarly, sourceOf, targetOf, Root, Child, Forest, putAt}
+use Rattle.forced_late.specs.Forest.{depthOf, stepTo, isInner, inner, lateEarly, sourceOf, Root, Child, Forest, putAt}
 
 -- ---- a mark more
 

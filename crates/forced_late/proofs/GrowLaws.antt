@@ -1,23 +1,22 @@
 -- Steps that grow the forest, one after the other: nothing that is there is lost, and each that marks a register leaves fewer without a depth.
 use mathlib.Core.Path.{_≡_, refl, sym, ap, _∙_, subst, subst⁻¹}
-use mathlib.Core.Logic.{_⊎_, inl, inr}
+use mathlib.Core.Logic.{inl, inr}
 use mathlib.Core.Bool.{Bool, true, false, _||_}
-use mathlib.Core.List.{List, [], _∷_}
+use mathlib.Core.List.{List}
 use Prim.Native.Nat.{ℕ, zero, suc, _+_, _*_, _/_, _%_, _≤_, _<_}
 use native.Mathlib.Decide.{ℕ-discrete}
 use native.Mathlib.Omega.{arith}
-use lib.ListN.{length, getD, take, drop, set}
+use lib.ListN.{length, take}
 use borrow.Author.Count.{below-more}
 use lib.Seq.{length-take-le}
-use Rattle.timing.specs.Limits.{perRegister, perPair, maxRegisters}
+use Rattle.timing.specs.Limits.{perPair, maxRegisters}
 use Rattle.list_format.specs.Lists.{pairCount, pairAt, UsableList}
 use Rattle.list_format.proofs.ListLaws.{few-registers}
 use Rattle.split_laws.specs.Marks.{unset}
-use Rattle.propagate.specs.Store.{Lent}
 use Rattle.propagate.proofs.StoreLaws.{lent-kept}
-use Rattle.forced_late.specs.Forest.{depthOf, stepTo, IsBroken, isInner, inner, earlyEarly, earlyLate, lateEarly, lateLate, sourceOf, targetOf, putAt}
+use Rattle.forced_late.specs.Forest.{depthOf, IsBroken, isInner, inner, earlyEarly, earlyLate, lateEarly, sourceOf, putAt}
 use Rattle.forced_late.specs.Forest.{Root, Child, Forest, Growing, MarkedAs, Marked, GrowTold, Grew, Grows, Along, Forces, PairForces, AllForce}
-use Rattle.forced_late.specs.Forest.{SettledAs, IsSeeded, Roots, Rooted, Seeding, Blank, ForcedLate, Clashes, ClashAt}
+use Rattle.forced_late.specs.Forest.{SettledAs, IsSeeded, Roots, Rooted, Seeding, Blank, ForcedLate}
 use Rattle.forced_late.proofs.ForestLaws.{inner-most, still-broken, ends-in, put-size, put-rest, put-inner, put-fewer, put-depth, put-depth-other, put-kept, forest-put}
 
 -- ---- steps
@@ -69,9 +68,6 @@ module _ (ws : List ℕ) (n : ℕ) where
   module _ {m : ℕ} (S : List ℕ) (g : Growing ws n m S) where
     room : 2 * n ≤ length S
     room = omega (arith, g .lent .room)
-
-    pub forces-unbroken : (from to e : ℕ) → (IsBroken n S e → ⊥) → Grows ws n (Forces n from to e) S S false
-    forces-unbroken from to e h = grows-none S (g .forest) (λ b. absurd (h b))
 
     pub forces-early : (from to e : ℕ) → depthOf S from ≡ 0 → Grows ws n (Forces n from to e) S S false
     forces-early from to e h = grows-none S (g .forest) (λ b l. absurd (omega arith))

@@ -1,18 +1,18 @@
 -- The text of two chains: numbers that are short, the pair of a step, that each step of a chain is of a pair of the list, and both chains.
 use Prim.Native.Nat.{ℕ, zero, suc, _+_, _-_, _*_, _^_, _≤_, _<_}
-use mathlib.Core.Bool.{true, false, _&&_}
+use mathlib.Core.Bool.{true, false}
 use mathlib.Core.List.{List, [], _∷_, _++_}
-use mathlib.Core.Path.{_≡_, refl, sym, subst, _∙_}
+use mathlib.Core.Path.{_≡_, sym, subst, _∙_}
 use native.Mathlib.Omega.{arith}
-use lib.Dec.{ltb}
 use lib.ListN.{length, getD, take, drop, length-append}
-use borrow.Author.Tests.{ltb-true}
 use Rattle.timing.specs.declared.Pair.{Pair}
 use Rattle.timing.proofs.RuleLaws.{and-true}
 use Rattle.timing.specs.Rules.{pair}
-use Rattle.list_format.specs.Lists.{registers, pairCount, pairAt, pairsFrom, pairs, PairIn, IsPair, IsUsable}
+use Rattle.list_format.specs.Lists.{registers, pairs, PairIn, IsPair, IsUsable}
 use Rattle.free_laws.specs.Free.{common}
-use Rattle.split_laws.specs.Choices.{isLate, rowLaunch, rowCapture, brokenRow}
+use Rattle.split_laws.specs.Choices.{isLate, rowLaunch, rowCapture}
+use Rattle.chain_laws.proofs.ChainLaws.{stands-step}
+use Rattle.blocking.proofs.StepLaws.{pairs-length, pairs-at}
 use Rattle.chain_laws.specs.Chains.{node, indexOf, rowOf, stepPair, stands, next, leads, Chains, Blocks}
 use Rattle.text_pieces.specs.Pieces.{Put, letters, decimal, named}
 use Rattle.text_pieces.proofs.DecimalLaws.{decimal-few}
@@ -30,32 +30,7 @@ put-short name n end h put =
     rw (length-append name (decimal n ++ (end ∷ [])), length-append (decimal n) (end ∷ [])) (omega (arith, few)) in
     put-within put most
 
--- ---- the pairs of a list
-
 module _ (ws : List ℕ) where
-  from-size : (k left : ℕ) → length (pairsFrom ws k left) ≡ left
-  unfolding pairsFrom
-  from-size k zero = refl
-  from-size k (suc left) = rw (from-size (k + 1) left)
-
-  pub pairs-size : length (pairs ws) ≡ pairCount ws
-  pairs-size = from-size 0 (pairCount ws)
-
-  from-at : (from left j : ℕ) (d : Pair) → j < left → getD (pairsFrom ws from left) j d ≡ pairAt ws (from + j)
-  unfolding pairsFrom
-  from-at from zero j d h = absurd (omega arith)
-  from-at from (suc left) zero d h =
-      let z : from + 0 ≡ from = omega arith in
-      rw z
-  from-at from (suc left) (suc j) d h =
-      let z : from + suc j ≡ from + 1 + j = omega arith in
-      rw z (from-at (from + 1) left j d (omega arith))
-
-  pub pairs-at : (k : ℕ) (d : Pair) → k < pairCount ws → getD (pairs ws) k d ≡ pairAt ws k
-  pairs-at k d h =
-      let z : 0 + k ≡ k = omega arith in
-      rw z at (from-at 0 (pairCount ws) k d h)
-
   -- ---- the line of a step, from its pair and its choices
   pub step-put : (t s e : ℕ) {p : Pair} {a b w at next : ℕ} {was now : List ℕ} → PairIn ws (indexOf e) → IsPair ws (indexOf e) p
       → a ≡ rowLaunch (rowOf e) → b ≡ rowCapture (rowOf e)
@@ -63,7 +38,7 @@ module _ (ws : List ℕ) where
       → Put w (stepLine t s (pairs ws) e) was at now next
   unfolding stepLine
   step-put t s e {p} {a} {b} {w} {at} {next} {was} {now} here is ea eb put =
-      let same : p ≡ stepPair (pairs ws) e = is .same ∙ sym (pairs-at (indexOf e) (pair 0 0 0 0) (here .below)) in
+      let same : p ≡ stepPair (pairs ws) e = is .same ∙ sym (pairs-at ws (pair 0 0 0 0) (indexOf e) (here .below)) in
       let piece : Pair → ℕ → ℕ → List ℕ = λ q x y. named (letters "pair ") (indexOf e) colon ++ choicesWords t s q (isLate x) (isLate y) in
       let there : piece p a b ≡ piece (stepPair (pairs ws) e) (rowLaunch (rowOf e)) (rowCapture (rowOf e)) = rw (same, ea, eb) in
       subst (λ (z : List ℕ). Put w z was at now next) there put
@@ -72,12 +47,10 @@ module _ (ws : List ℕ) where
 
   leads-below : (t s : ℕ) (es : List ℕ) (x y : ℕ) → leads t s (pairs ws) es x y ≡ true → (i : ℕ) → i < length es
       → indexOf (getD es i 0) < length (pairs ws)
-  unfolding leads stands
+  unfolding leads
   leads-below t s [] x y h i l = absurd (omega arith)
   leads-below t s (e ∷ es) x y h zero l =
-      let here = and-true (stands t s (pairs ws) e x) (leads t s (pairs ws) es (next (pairs ws) e x) y) h .0 in
-      let place = and-true (ltb (indexOf e) (length (pairs ws)) && brokenRow t s (stepPair (pairs ws) e) (rowOf e)) _ here .0 in
-      ltb-true _ _ (and-true (ltb (indexOf e) (length (pairs ws))) (brokenRow t s (stepPair (pairs ws) e) (rowOf e)) place .0)
+      stands-step t s (pairs ws) e x (and-true (stands t s (pairs ws) e x) (leads t s (pairs ws) es (next (pairs ws) e x) y) h .0) .place
   leads-below t s (e ∷ es) x y h (suc i) l =
       let rest = and-true (stands t s (pairs ws) e x) (leads t s (pairs ws) es (next (pairs ws) e x) y) h .1 in
       leads-below t s es (next (pairs ws) e x) y rest i (omega arith)
@@ -93,7 +66,7 @@ module _ (ws : List ℕ) where
       }
     where
       steps : (es : List ℕ) (y z : ℕ) → leads t s (pairs ws) es y z ≡ true → StepsIn ws es
-      steps es y z h = record { usable = u; below = λ i l. rw pairs-size at (leads-below t s es y z h i l) }
+      steps es y z h = record { usable = u; below = λ i l. rw (pairs-length ws) at (leads-below t s es y z h i l) }
 
 -- ---- both chains, in the buffer that they stand in
 

@@ -1,6 +1,4 @@
 -- `prepare`: blank marks and the broken choices, then the forest (`made-ready`).
-use denote.Ref.{now}
-use mathlib.Core.Path.{_≡_, _∙_, ap}
 use Rattle.blocking.proofs.WhyLaws.{prepared-blank, made-ready}
 use borrow.Author.Needs.{needs}
 use Rattle.blocking.proofs.prepare.Statement.{statement}

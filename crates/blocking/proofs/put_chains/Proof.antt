@@ -1,12 +1,9 @@
 -- `put_chains`: the path to the root, then both chains (`chains-in`).
 use denote.Ref.{now}
-use mathlib.Core.Path.{_≡_, refl}
+use mathlib.Core.Path.{refl}
 use Prim.Native.Nat.{_+_, _≤_}
 use Rattle.timing.specs.Limits.{maxRegisters}
 use Rattle.forced_late.specs.Forest.{depthOf}
-use Rattle.blocking.specs.Paths.{heightOf, Traced}
-use Rattle.list_format.specs.Lists.{pairAt}
-use Rattle.list_format.proofs.ListLaws.{few-registers}
 use Rattle.blocking.proofs.ChainsLaws.{launch-late}
 use Rattle.blocking.proofs.PutLaws.{launch-few, root-few, root-reads, first-asks, step-small, first-short, second-asks, second-short, chains-in}
 use borrow.Author.Needs.{needs}

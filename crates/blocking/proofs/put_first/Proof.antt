@@ -1,6 +1,5 @@
 -- `put_first`: one step or two (`first-one`, `first-two`).
 use denote.Ref.{now}
-use mathlib.Core.Path.{_≡_}
 use Rattle.blocking.proofs.StoreLaws.{first-one, first-two}
 use borrow.Author.Needs.{needs}
 use Rattle.blocking.proofs.put_first.Statement.{statement}

@@ -1,6 +1,5 @@
 -- `put_second`: the path down and one step, then, if this does not come to the root, one step and the path up (`second-one`, `second-two`).
 use denote.Ref.{now}
-use mathlib.Core.Path.{_≡_, refl}
 use native.Mathlib.Omega.{arith}
 use Rattle.blocking.proofs.ChainsLaws.{path-size}
 use Rattle.blocking.proofs.StoreLaws.{second-one, second-two}

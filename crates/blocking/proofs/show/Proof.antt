@@ -1,7 +1,5 @@
 -- `show`: the forest, then a pair that clashes or none. One law for each answer.
 use denote.Ref.{now}
-use mathlib.Core.Logic.{_⊎_, inl, inr}
-use native.Mathlib.Omega.{arith}
 use Rattle.blocking.proofs.WhyLaws.{clash-none, clash-there, workable-shown, clashing, blocked-shown}
 use borrow.Author.Needs.{needs}
 use Rattle.blocking.proofs.show.Statement.{statement}

@@ -1,5 +1,4 @@
 -- `source`: the launch of the step's pair for late-early, else the capture.
-use Prim.Native.Nat.{_%_}
 use borrow.Author.Tests.{eq-eqb, ne-eqb}
 use borrow.Author.Needs.{needs}
 use Rattle.blocking.proofs.source.Statement.{statement}

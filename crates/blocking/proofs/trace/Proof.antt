@@ -1,6 +1,6 @@
 -- `trace`: the steps from register r up to its root. Invariant `Tracing`. What falls: height - i.
 use denote.Ref.{now}
-use mathlib.Core.Path.{_≡_, refl}
+use mathlib.Core.Path.{refl}
 use Prim.Native.Nat.{_-_}
 use native.Mathlib.Omega.{arith}
 use Rattle.buffers.proofs.FillLaws.{filling-size}

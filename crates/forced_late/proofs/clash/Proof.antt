@@ -1,12 +1,11 @@
 -- `clash`: the first pair that clashes, or m. Invariant: none of the first k does. What falls: m - k.
 use denote.Ref.{now}
-use mathlib.Core.Bool.{true, false}
 use mathlib.Core.Logic.{inl, inr}
 use mathlib.Core.Path.{refl}
 use Prim.Native.Nat.{ℕ, _-_, _≤_, _<_}
 use native.Mathlib.Omega.{arith}
 use borrow.Author.Count.{below-more}
-use Rattle.forced_late.specs.Forest.{Clashes, ClashTold}
+use Rattle.forced_late.specs.Forest.{Clashes}
 use borrow.Author.Needs.{needs}
 use Rattle.forced_late.proofs.clash.Statement.{statement}
 use Rattle.forced_late.proofs.clash.Tie as tie

@@ -1,6 +1,6 @@
 -- `clashes`: whether pair k has a late launch and late-late is broken.
 use denote.Ref.{now}
-use mathlib.Core.Path.{_≡_, ap, sym, _∙_}
+use mathlib.Core.Path.{_≡_}
 use native.Mathlib.Omega.{arith}
 use Rattle.forced_late.specs.Forest.{depthOf}
 use borrow.Author.Needs.{needs}

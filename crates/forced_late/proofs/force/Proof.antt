@@ -1,6 +1,6 @@
 -- `force`: the step is not broken, or the register that it comes from is not late, or the register that it leads to is marked.
 use denote.Ref.{now}
-use Rattle.forced_late.proofs.GrowLaws.{depth-few, forces-unbroken, forces-early, forces-marked}
+use Rattle.forced_late.proofs.GrowLaws.{depth-few, forces-early, forces-marked}
 use borrow.Author.Needs.{needs}
 use Rattle.forced_late.proofs.force.Statement.{statement}
 use Rattle.forced_late.proofs.force.Tie as tie

@@ -1,6 +1,6 @@
 -- `force_late`: the roots, the walk, then sweeps until nothing is marked (`forced`).
 use denote.Ref.{now}
-use Rattle.forced_late.proofs.GrowLaws.{grew-then, growing-kept, seed-roots, forced}
+use Rattle.forced_late.proofs.GrowLaws.{growing-kept, seed-roots, forced}
 use borrow.Author.Needs.{needs}
 use Rattle.forced_late.proofs.force_late.Statement.{statement}
 use Rattle.forced_late.proofs.force_late.Tie as tie
