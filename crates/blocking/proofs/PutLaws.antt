@@ -79,12 +79,12 @@ module _ {ws : List ℕ} {n m k : ℕ} {answer S : List ℕ} (x : Clashing ws n 
           ∙ (ap (λ (j : ℕ). length (firstChain ws (getD S′ (n + b) 0)) + j) (length-drop (length (firstChain ws (getD S′ (n + b) 0))) answer)
           ∙ omega (arith, ef, first-short ef, x .room, root-below)))
 
-      pub second-asks : PairIn ws k × (count ≤ maxRegisters) × (2 * n + count ≤ length S′) × (first + 2 * count + 2 ≤ length a1)
-      second-asks = (
+      pub second-asks : (at : ℕ) → at ≤ 2 → PairIn ws k × (count ≤ maxRegisters) × (2 * n + count ≤ length S′) × (at + 2 * count + 2 ≤ length a1)
+      second-asks at h = (
         pair-in ws (x .growing .lent .list) (x .below),
         omega (arith, height-short, few),
         omega (arith, height-short, x .growing .lent .room, traced-size ws n m (pairAt ws k .launch) S late t),
-        omega (arith, height-short, first-short ef, a1-size, x .room),
+        omega (arith, height-short, a1-size, x .room),
       )
 
       module _ {second : ℕ} {a2 : List ℕ} (es : second ≡ length (chainBy ws k b (downward n count S′) (upward n count S′)))

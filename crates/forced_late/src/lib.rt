@@ -306,8 +306,8 @@ fn clashes(words: &[u32], n: usize, m: usize, k: usize, scratch: &[u32]) -> bool
     requires { ⌜ Lent (now words) n m (now scratch) × (k < m) ⌝ }
     ensures { λ o. ⌜ ClashTold o (now (words .entry)) n (now (scratch .entry)) k ⌝ }
 {
-    let step = PER_PAIR * k + LATE_LATE;
-    if scratch[PER_REGISTER * n + step] != 1 {
+    let last = PER_PAIR * k + LATE_LATE;
+    if scratch[PER_REGISTER * n + last] != 1 {
         return false;
     }
     let p = delay_list::pair_at(words, k);

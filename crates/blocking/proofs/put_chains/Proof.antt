@@ -46,7 +46,9 @@ put-first-requires c κs = first-asks (c .before .before .before .before .before
 put-second-requires : tie.Need-put-second-requires
 put-second-requires c κs =
     let same = c .before .before .before .before .before .before .before .before .before .before .before .before .before .before .pair-at .ensures .same in
-    second-asks (c .before .before .before .before .before .before .before .before .before .before .before .before .before .before .before .before .before .before .pre) (rw same at (c .before .before .before .before .before .before .before .before .before .trace .ensures)) (rw same refl) (c .before .before .before .before .put-first .ensures .0) (c .before .before .before .before .put-first .ensures .1)
+    let t = rw same at (c .before .before .before .before .before .before .before .before .before .trace .ensures) in
+    second-asks (c .before .before .before .before .before .before .before .before .before .before .before .before .before .before .before .before .before .before .pre) t (rw same refl) (c .before .before .before .before .put-first .ensures .0) (c .before .before .before .before .put-first .ensures .1) _
+    (search (needs, first-short (c .before .before .before .before .before .before .before .before .before .before .before .before .before .before .before .before .before .before .pre) t (c .before .before .before .before .put-first .ensures .0)))
 
 cast-t16 : tie.Need-cast-t16
 cast-t16 c = search (needs, root-few (c .before .before .before .before .before .before .before .before .before .before .before .before .before .before .before .before .before .before .before .before .before .pre) (rw (c .before .before .before .before .before .before .before .before .before .before .before .before .before .before .before .before .before .pair-at .ensures .same) at (c .before .before .before .before .before .before .before .before .before .before .before .before .trace .ensures)))
@@ -54,16 +56,18 @@ cast-t16 c = search (needs, root-few (c .before .before .before .before .before 
 cast-t27 : tie.Need-cast-t27
 cast-t27 c =
     let same = c .before .before .before .before .before .before .before .before .before .before .before .before .before .before .before .before .before .pair-at .ensures .same in
-    search (needs, first-short (c .before .before .before .before .before .before .before .before .before .before .before .before .before .before .before .before .before .before .before .before .before .pre) (rw same at (c .before .before .before .before .before .before .before .before .before .before .before .before .trace .ensures)) (c .before .before .before .before .before .before .before .put-first .ensures .0))
+    let t = rw same at (c .before .before .before .before .before .before .before .before .before .before .before .before .trace .ensures) in
+    let first = c .before .before .before .before .before .before .before .put-first .ensures in
+    let second = c .before .before .put-second .ensures in
+    search (needs, first-short (c .before .before .before .before .before .before .before .before .before .before .before .before .before .before .before .before .before .before .before .before .before .pre) t (first .0), second-short (c .before .before .before .before .before .before .before .before .before .before .before .before .before .before .before .before .before .before .before .before .before .pre) t (rw same refl) (first .0) (first .1) (second .0) (second .1))
 
 cast-t28 : tie.Need-cast-t28
 cast-t28 c =
     let same = c .before .before .before .before .before .before .before .before .before .before .before .before .before .before .before .before .before .pair-at .ensures .same in
-    search (
-      needs,
-      second-short (c .before .before .before .before .before .before .before .before .before .before .before .before .before .before .before .before .before .before .before .before .before .pre) (rw same at (c .before .before .before .before .before .before .before .before .before .before .before .before .trace .ensures)) (rw same refl) (c .before .before .before .before .before .before .before .put-first .ensures .0) (c .before .before .before .before .before .before .before .put-first .ensures .1)
-          (c .before .before .put-second .ensures .0) (c .before .before .put-second .ensures .1),
-    )
+    let t = rw same at (c .before .before .before .before .before .before .before .before .before .before .before .before .trace .ensures) in
+    let first = c .before .before .before .before .before .before .before .put-first .ensures in
+    let second = c .before .before .put-second .ensures in
+    search (needs, first-short (c .before .before .before .before .before .before .before .before .before .before .before .before .before .before .before .before .before .before .before .before .before .pre) t (first .0), second-short (c .before .before .before .before .before .before .before .before .before .before .before .before .before .before .before .before .before .before .before .before .before .pre) t (rw same refl) (first .0) (first .1) (second .0) (second .1))
 
 returns : tie.Need-returns
 returns c =
