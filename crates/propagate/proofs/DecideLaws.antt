@@ -24,7 +24,7 @@ use Rattle.propagate.proofs.StoreLaws.{lent-room, flags-length, recorde
 module _ (t s : ℕ) (ws : List ℕ) (n : ℕ) where
   -- ---- the marks cleared, and the flags recorded in the part lent
   pub prepared : (S : List ℕ) {m : ℕ} {S₁ F : List ℕ} → Lent ws n m S → S₁ ≡ replicate n 0 ++ drop n S
-      → F ≡ over (flagsTo t s ws (perPair * pairCount ws)) (take (length S₁ - flagsFrom n) (drop (flagsFrom n) S₁))
+      → F ≡ over (flagsTo t s ws (pairCount ws)) (take (length S₁ - flagsFrom n) (drop (flagsFrom n) S₁))
       → Prepared t s ws n S (take (flagsFrom n) S₁ ++ (F ++ drop (length S₁ - flagsFrom n) (drop (flagsFrom n) S₁)))
   prepared S {S₁} {F} lent e f = rw is (record {
     size = simp (length-append, length-drop) (omega (arith, size₁, front, width, lent-room lent));
@@ -33,17 +33,17 @@ module _ (t s : ℕ) (ws : List ℕ) (n : ℕ) where
     flags = rw (drop-at (take (flagsFrom n) S₁) behind (flagsFrom n) front) (recorded t s ws _);
     rest = sym (drop-drop (perPair * pairCount ws) (flagsFrom n) (take (flagsFrom n) S₁ ++ behind))
         ∙ ap (drop (perPair * pairCount ws)) (drop-at (take (flagsFrom n) S₁) behind (flagsFrom n) front)
-        ∙ drop-at (flagsTo t s ws (perPair * pairCount ws)) _ (perPair * pairCount ws) width
+        ∙ drop-at (flagsTo t s ws (pairCount ws)) _ (perPair * pairCount ws) width
         ∙ ap (λ (k : ℕ). drop (flagsFrom n + k) S₁) width
         ∙ drop-further n (flagsFrom n + perPair * pairCount ws) S S₁ (omega arith)
         (ap (drop n) e ∙ drop-at (replicate n 0) (drop n S) n (length-replicate n 0));
   })
     where
       behind : List ℕ
-      behind = flagsTo t s ws (perPair * pairCount ws) ++ drop (flagsFrom n + length (flagsTo t s ws (perPair * pairCount ws))) S₁
+      behind = flagsTo t s ws (pairCount ws) ++ drop (flagsFrom n + length (flagsTo t s ws (pairCount ws))) S₁
 
-      width : length (flagsTo t s ws (perPair * pairCount ws)) ≡ perPair * pairCount ws
-      width = flags-length t s ws (perPair * pairCount ws)
+      width : length (flagsTo t s ws (pairCount ws)) ≡ perPair * pairCount ws
+      width = flags-length t s ws (pairCount ws)
 
       size₁ : length S₁ ≡ length S
       size₁ = ap length e ∙ simp (length-append, length-replicate, length-drop) (omega (arith, lent-room lent))
@@ -52,7 +52,7 @@ module _ (t s : ℕ) (ws : List ℕ) (n : ℕ) where
       front = length-take-le (flagsFrom n) S₁ (omega (arith, size₁, lent-room lent))
 
       is : take (flagsFrom n) S₁ ++ (F ++ drop (length S₁ - flagsFrom n) (drop (flagsFrom n) S₁)) ≡ take (flagsFrom n) S₁ ++ behind
-      is = brought-back (flagsFrom n) (flagsTo t s ws (perPair * pairCount ws)) S₁ F f
+      is = brought-back (flagsFrom n) (flagsTo t s ws (pairCount ws)) S₁ F f
 
   -- ---- the passes decide
   module _ (S S₂ : List ℕ) {m : ℕ} {S₁ : List ℕ} (lent : Lent ws n m S) (start : Prepared t s ws n S S₁) where

@@ -1,11 +1,12 @@
 -- Laws of the scratch of a trial: what is recorded, and the part that is lent to the recording.
--- Flag q is that of row q % 4 of pair q / 4, so the four flags of pair k stand at places 4k to 4k + 3 (`recorded`).
+-- The four flags of pair k stand at places 4k to 4k + 3 (`recorded`).
 use mathlib.Core.Path.{_≡_, refl, sym, ap, _∙_}
 use mathlib.Core.List.{List, [], _∷_, _++_, append-nil}
-use Prim.Native.Nat.{ℕ, zero, suc, _+_, _-_, _*_, _/_, _%_, _≤_, _<_}
+use Prim.Native.Nat.{ℕ, zero, suc, _+_, _-_, _*_, _≤_, _<_}
 use native.Mathlib.Omega.{arith}
 use lib.ListN.{length-map, length, getD, take, drop, length-drop, drop-of-length-le, List·getD-append}
 use lib.Seq.{ext-getD, getD-take, length-take-le, getD-drop, take-all, drop-drop}
+use Rattle.timing.specs.declared.Pair.{Pair}
 use Rattle.timing.specs.Limits.{perPair, scratchPlaces}
 use Rattle.buffers.specs.Run.{run}
 use Rattle.buffers.specs.Over.{over}
@@ -15,7 +16,7 @@ use Rattle.split_laws.specs.Split.{timeOf, timings}
 use Rattle.split_laws.specs.Choices.{isLate, flagAt}
 use Rattle.split_laws.specs.Marks.{splitOf, Flagged}
 use Rattle.split_laws.proofs.ClosureLaws.{time-of, length-splitOf, getD-splitOf}
-use Rattle.propagate.specs.Store.{flagsTo, fourAt, Recorded, Lent}
+use Rattle.propagate.specs.Store.{flagsOf, flagsTo, fourAt, Recorded, Lent}
 
 pub lent-kept : {ws : List ℕ} {n m : ℕ} {S S′ : List ℕ} → Lent ws n m S → length S′ ≡ length S → Lent ws n m S′
 lent-kept r e = record { list = r .list; room = rw e (r .room) }
@@ -25,16 +26,16 @@ lent-room r = omega (arith, r .room, r .list .pairsAre)
 
 -- ---- flags
 
-pub flags-length : (t s : ℕ) (ws : List ℕ) (q : ℕ) → length (flagsTo t s ws q) ≡ q
-flags-length t s ws q = run-length _ 1 (λ k. refl) q ∙ omega arith
+pub flags-length : (t s : ℕ) (ws : List ℕ) (k : ℕ) → length (flagsTo t s ws k) ≡ perPair * k
+flags-length t s ws = run-length _ perPair (λ k. refl)
 
--- place q of what is recorded
-flag-is : (t s : ℕ) (ws after : List ℕ) (end q : ℕ) → q < end
-    → getD (flagsTo t s ws end ++ after) q 0 ≡ flagAt t s (pairAt ws (q / perPair)) (q % perPair)
-flag-is t s ws after end q h =
-    let e : 1 * q + 0 ≡ q = omega arith in
-    List·getD-append (flagsTo t s ws end) after 0 q (rw (flags-length t s ws end) h)
-    ∙ (rw e at (run-at (λ k. flagAt t s (pairAt ws (k / perPair)) (k % perPair) ∷ []) 1 (λ k. refl) end q 0 h (omega arith)))
+-- the flag of row j
+flag-at : (t s : ℕ) (p : Pair) (j : ℕ) → j < perPair → getD (flagsOf t s p) j 0 ≡ flagAt t s p j
+flag-at t s p zero h = refl
+flag-at t s p (suc zero) h = refl
+flag-at t s p (suc (suc zero)) h = refl
+flag-at t s p (suc (suc (suc zero))) h = refl
+flag-at t s p (suc (suc (suc (suc j)))) h = absurd (omega arith)
 
 -- what stands at place j of four
 pub four-at : (F : List ℕ) (at j : ℕ) → j < perPair → getD (fourAt F at) j 0 ≡ getD F (at + j) 0
@@ -44,15 +45,14 @@ four-at F at (suc (suc zero)) h = refl
 four-at F at (suc (suc (suc zero))) h = refl
 four-at F at (suc (suc (suc (suc j)))) h = absurd (omega arith)
 
-pub recorded : (t s : ℕ) (ws after : List ℕ) → Recorded t s ws (flagsTo t s ws (perPair * pairCount ws) ++ after)
+pub recorded : (t s : ℕ) (ws after : List ℕ) → Recorded t s ws (flagsTo t s ws (pairCount ws) ++ after)
 recorded t s ws after = record { each = each }
   where
-    each : (k : ℕ) → k < pairCount ws → Flagged t s (pairAt ws k) (fourAt (flagsTo t s ws (perPair * pairCount ws) ++ after) (perPair * k))
+    each : (k : ℕ) → k < pairCount ws → Flagged t s (pairAt ws k) (fourAt (flagsTo t s ws (pairCount ws) ++ after) (perPair * k))
     each k h j l =
-        let d : (perPair * k + j) / perPair ≡ k = omega arith in
-        let r : (perPair * k + j) % perPair ≡ j = omega arith in
-        four-at (flagsTo t s ws (perPair * pairCount ws) ++ after) (perPair * k) j l
-        ∙ (rw (d, r) at (flag-is t s ws after (perPair * pairCount ws) (perPair * k + j) (omega arith)))
+        four-at (flagsTo t s ws (pairCount ws) ++ after) (perPair * k) j l
+        ∙ (List·getD-append (flagsTo t s ws (pairCount ws)) after 0 (perPair * k + j) (rw (flags-length t s ws (pairCount ws)) (omega arith))
+        ∙ (run-at (λ i. flagsOf t s (pairAt ws i)) perPair (λ i. refl) (pairCount ws) k j h l ∙ flag-at t s (pairAt ws k) j l))
 
 -- the flags of a pair, read from the whole scratch
 pub four-drop : (cut k : ℕ) (S : List ℕ) → fourAt S (cut + perPair * k) ≡ fourAt (drop cut S) (perPair * k)

@@ -3,8 +3,9 @@
 use mathlib.Core.Path.{_≡_}
 use mathlib.Core.Bool.{Bool, true, false}
 use mathlib.Core.List.{List, [], _∷_}
-use Prim.Native.Nat.{ℕ, _+_, _*_, _/_, _%_, _≤_, _<_}
+use Prim.Native.Nat.{ℕ, _+_, _*_, _≤_, _<_}
 use lib.ListN.{length, getD, take, drop, replicate}
+use Rattle.timing.specs.declared.Pair.{Pair}
 use Rattle.timing.specs.Limits.{perRegister, perPair, scratchPlaces}
 use Rattle.buffers.specs.Run.{run}
 use Rattle.list_format.specs.Lists.{pairCount, pairAt, pairs, UsableList}
@@ -16,9 +17,12 @@ use Rattle.split_laws.specs.Marks.{Flagged, splitOf}
 abbrev pub flagsFrom : ℕ → ℕ
 flagsFrom n = perRegister * n
 
--- the flags of the pairs at period t and offset s, one after the other: the first q of them
+-- the flags of a pair at period t and offset s, row by row; those of the first k pairs, one after the other
+abbrev pub flagsOf : ℕ → ℕ → Pair → List ℕ
+flagsOf t s p = flagAt t s p 0 ∷ flagAt t s p 1 ∷ flagAt t s p 2 ∷ flagAt t s p 3 ∷ []
+
 abbrev pub flagsTo : ℕ → ℕ → List ℕ → ℕ → List ℕ
-flagsTo t s ws = run (λ q. flagAt t s (pairAt ws (q / perPair)) (q % perPair) ∷ [])
+flagsTo t s ws = run (λ k. flagsOf t s (pairAt ws k))
 
 -- the four numbers from place `at` on
 abbrev pub fourAt : List ℕ → ℕ → List ℕ

@@ -2,17 +2,19 @@
 // The contracts cite `specs/Store.antt` (what the scratch holds) and `specs/Passes.antt` (what a pass promises).
 ghost use mathlib.Core.Path.{_≡_};
 ghost use Prim.Native.Nat.{_+_, _*_, _≤_, _<_};
-ghost use lib.ListN.{length, take};
+ghost use lib.ListN.{length, take, drop};
+ghost use mathlib.Core.List.{_++_};
 ghost use Rattle.buffers.specs.Over.{over};
 ghost use Rattle.timing.specs.Limits.{perPair};
 ghost use Rattle.list_format.specs.Lists.{registers, UsableList};
 ghost use Rattle.split_laws.specs.Split.{timings};
 ghost use Rattle.split_laws.specs.Marks.{splitOf};
-ghost use Rattle.propagate.specs.Store.{flagsTo, fourAt, Lent, Prepared, Decided};
+ghost use Rattle.propagate.specs.Store.{flagsOf, flagsTo, fourAt, Lent, Prepared, Decided};
 ghost use Rattle.propagate.specs.Passes.{Pass, PairClosed, AllClosed, Propagated};
 use split_laws::Change;
 use timing::PER_PAIR;
 use timing::PER_REGISTER;
+use timing::Pair;
 
 // The flags of a pair, from the place of the first on.
 fn flags_at(scratch: &[u32], at: usize) -> [u32; PER_PAIR]
@@ -68,17 +70,27 @@ fn propagate(words: &[u32], n: usize, m: usize, scratch: &mut [u32]) -> bool
     }
 }
 
-// The broken choices of all pairs, four places to a pair.
+// The broken choices of a pair, in four places from `at` on.
+fn record_pair(pair: Pair, period: u32, offset: u32, at: usize, flags: &mut [u32])
+    requires { ⌜ at + perPair ≤ length (now flags) ⌝ }
+    ensures { λ _. ⌜ now (flags .exit) ≡ take at (now (flags .entry)) ++ (flagsOf period offset pair ++ drop (at + perPair) (now (flags .entry))) ⌝ }
+{
+    flags[at] = marks::broken_flag(pair, period, offset, 0);
+    flags[at + 1] = marks::broken_flag(pair, period, offset, 1);
+    flags[at + 2] = marks::broken_flag(pair, period, offset, 2);
+    flags[at + 3] = marks::broken_flag(pair, period, offset, 3);
+}
+
+// The broken choices of all pairs.
 fn record_broken(words: &[u32], period: u32, offset: u32, m: usize, flags: &mut [u32])
     requires { ⌜ UsableList (now words) (registers (now words)) m × (perPair * m ≤ length (now flags)) ⌝ }
-    ensures { λ _. ⌜ now (flags .exit) ≡ over (flagsTo period offset (now (words .entry)) (perPair * m)) (now (flags .entry)) ⌝ }
+    ensures { λ _. ⌜ now (flags .exit) ≡ over (flagsTo period offset (now (words .entry)) m) (now (flags .entry)) ⌝ }
 {
-    let end = PER_PAIR * m;
-    let mut q = 0;
-    while q < end {
-        let pair = delay_list::pair_at(words, q / PER_PAIR);
-        flags[q] = marks::broken_flag(pair, period, offset, q % PER_PAIR);
-        q += 1;
+    let mut k = 0;
+    while k < m {
+        let pair = delay_list::pair_at(words, k);
+        record_pair(pair, period, offset, PER_PAIR * k, flags);
+        k += 1;
     }
 }
 

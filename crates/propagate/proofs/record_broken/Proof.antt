@@ -1,54 +1,47 @@
 -- `record_broken`: the flags of all pairs, four to a pair.
--- Invariant `Filling`: the first q flags are stored. What falls: end - q.
-use mathlib.Core.List.{[], _∷_}
-use mathlib.Core.Path.{_≡_, refl}
-use Prim.Native.Nat.{_*_, _/_, _%_, _-_, _<_}
+-- Invariant `Filling`: those of the first k pairs are stored. What falls: m - k.
+use mathlib.Core.List.{[]}
+use mathlib.Core.Path.{refl}
+use Prim.Native.Nat.{_*_, _-_}
 use native.Mathlib.Omega.{arith}
-use lib.ListN.{length}
-use Rattle.buffers.proofs.FillLaws.{Filling, filled-none, filling-start, filling-size, filling-end, filling-turn, set-put}
+use Rattle.buffers.proofs.FillLaws.{Filling, filled-none, filling-start, filling-size, filling-end, filling-turn}
 use Rattle.timing.specs.Limits.{perPair}
 use Rattle.list_format.specs.Lists.{pairAt}
-use Rattle.split_laws.specs.Choices.{flagAt}
 use Rattle.list_format.proofs.ListLaws.{pair-in}
+use Rattle.propagate.specs.Store.{flagsOf}
 use borrow.Author.Needs.{needs}
 use Rattle.propagate.proofs.record_broken.Statement.{statement}
 use Rattle.propagate.proofs.record_broken.Tie as tie
 
 abbrev Inv-loop : tie.InvT-loop
-Inv-loop words period offset m flags₀ end q₀ flags q =
-    (end ≡ perPair * m) × Filling [] (λ q. flagAt period offset (pairAt words (q / perPair)) (q % perPair) ∷ []) end flags₀ flags q
+Inv-loop words period offset m flags₀ k₀ flags k = Filling [] (λ k. flagsOf period offset (pairAt words k)) m flags₀ flags k
 
 abbrev μ-loop : tie.MeasureT-loop
-μ-loop words period offset m flags₀ end q₀ flags q = end - q
+μ-loop words period offset m flags₀ k₀ flags k = m - k
 
 loop-holds : tie.Need-loop-holds Inv-loop μ-loop
-loop-holds c = (refl, filling-start (filled-none _))
+loop-holds c = filling-start (filled-none _)
 
 pair-at-requires : tie.Need-pair-at-requires Inv-loop μ-loop
-pair-at-requires c κs = pair-in _ (c .before .before .before .before .pre .0) (omega arith)
+pair-at-requires c κs = pair-in _ (c .before .before .before .before .pre .0) (c .loop-test .taken)
 
-slice-write-flags : tie.Need-slice-write-flags Inv-loop μ-loop
-slice-write-flags c = omega (arith, filling-size (c .before .before .before .loop .inv .1))
+record-pair-requires : tie.Need-record-pair-requires Inv-loop μ-loop
+record-pair-requires c κs = omega (arith, filling-size (c .before .before .before .loop .inv), c .before .before .loop-test .taken, c .before .before .before .before .before .before .pre .1)
 
 loop-again : tie.Need-loop-again Inv-loop μ-loop
 loop-again c =
-    let l = c .before .before .before .loop in
-    let inside : l .q < length (l .flags) = omega (arith, filling-size (l .inv .1)) in (
-      l .inv .0,
-      filling-turn 1 (λ k. refl) (omega arith) (l .inv .1) (omega arith) (l .q) (omega arith)
-          (rw (c .broken-flag .ensures, c .before .pair-at .ensures .same) (set-put (l .flags) (l .q) _ inside)),
-    )
+    let l = c .before .before .before .before .before .before .loop in
+    filling-turn perPair (λ k. refl) (omega (arith, c .before .before .before .before .before .before .before .before .before .pre .1)) (l .inv) (c .before .before .before .before .before .loop-test .taken) (perPair * l .k) (omega arith)
+    (rw (c .before .before .before .before .pair-at .ensures .same) at (c .before .before .record-pair .ensures))
 
 same-length : tie.Need-same-length Inv-loop μ-loop
-same-length c = filling-size (c .before .loop .inv .1)
+same-length c = filling-size (c .before .loop .inv)
 
 returns : tie.Need-returns Inv-loop μ-loop
-returns c =
-    let l = c .before .loop in
-    filling-end (l .inv .1) (omega arith)
+returns c = filling-end (c .before .loop .inv) (omega (arith, c .loop-test .left))
 
 pub record-broken-spec : {M : Type 1} → statement M
 record-broken-spec =
     tie.close
-    (tie.spec Inv-loop μ-loop (λ c. search needs) loop-holds pair-at-requires (λ c κs. omega arith) (λ c. search needs)
-    slice-write-flags (λ c. omega arith) (λ c. omega arith) loop-again same-length returns)
+    (tie.spec Inv-loop μ-loop loop-holds pair-at-requires (λ c. search needs) record-pair-requires (λ c. search needs) (λ c. search needs)
+    loop-again same-length returns)
