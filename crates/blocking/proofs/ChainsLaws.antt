@@ -150,7 +150,9 @@ module _ (ws : List ℕ) (n m k : ℕ) (answer S : List ℕ) (x : Clashing ws n 
         let z = length-append (pathDown ws n S (pairAt ws k .launch)) ((perPair * k + lateLate) ∷ []) in
         record { from = omega (arith, z); upto = omega (arith, z, down-size, height-one) }
     second-size false e =
-        let z = length-append (pathDown ws n S (pairAt ws k .launch)) ((perPair * k + lateLate) ∷ (perPair * k + lateEarly) ∷ pathUp ws n S (pairAt ws k .launch)) in
+        let z =
+        length-append (pathDown ws n S (pairAt ws k .launch))
+        ((perPair * k + lateLate) ∷ (perPair * k + lateEarly) ∷ pathUp ws n S (pairAt ws k .launch)) in
         record { from = omega (arith, z); upto = omega (arith, z, down-size, up-size, height-two (eqb-false _ _ e)) }
 
     -- ---- the first chain
@@ -171,7 +173,8 @@ module _ (ws : List ℕ) (n m k : ℕ) (answer S : List ℕ) (x : Clashing ws n 
       finish : Step t s (pairs ws) (e + lateEarly) (node (pairAt ws (e / perPair) .launch) true) (node (rootOf ws n S (pairAt ws k .launch)) true)
       finish =
           rw (same-pair, o .capture) at
-          (by-late-early t s ws (e + lateEarly) (rw same-pair (o .place)) (rw (same-pair, same-row) (early-early-late t s (pairAt ws (e / perPair)) early-broken)) same-row)
+          (by-late-early t s ws (e + lateEarly) (rw same-pair (o .place))
+          (rw (same-pair, same-row) (early-early-late t s (pairAt ws (e / perPair)) early-broken)) same-row)
 
       first-leads : (d : Bool) → eqb (pairAt ws (e / perPair) .launch) (pairAt ws (e / perPair) .capture) ≡ d
           → leads t s (pairs ws) (cond d (e ∷ []) (e ∷ (e + lateEarly) ∷ []))

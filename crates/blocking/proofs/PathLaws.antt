@@ -58,7 +58,8 @@ module _ {ws : List ℕ} {n m : ℕ} (S : List ℕ) (r : ℕ) (l : Late ws n m S
 
   module _ (t s : ℕ) (f : Recorded t s ws (drop (flagsFrom n) S)) where
     -- step i leads from the register i + 1 steps up to that i steps up
-    down-step : (i : ℕ) → i < heightOf S r → Step t s (pairs ws) (stepUp ws n S r i) (node (ancestor ws n S r (i + 1)) true) (node (ancestor ws n S r i) true)
+    down-step : (i : ℕ) → i < heightOf S r
+        → Step t s (pairs ws) (stepUp ws n S r i) (node (ancestor ws n S r (i + 1)) true) (node (ancestor ws n S r i) true)
     unfolding ancestor
     down-step i h =
         let z : i + 1 ≡ suc i = omega arith in

@@ -14,7 +14,7 @@ use Rattle.list_format.proofs.ListLaws.{pair-in, few-registers}
 use Rattle.forced_late.specs.Forest.{earlyEarly, lateEarly, lateLate, depthOf, stepTo, Root}
 use Rattle.forced_late.proofs.GrowLaws.{depth-few}
 use Rattle.blocking.specs.declared.Reason.the-variants.{Blocked}
-use Rattle.blocking.specs.Paths.{heightOf, rootOf, firstChain, chainBy, chainsOf, Late, Traced, upward, downward, Clashing}
+use Rattle.blocking.specs.Paths.{heightOf, rootOf, firstChain, chainsOf, Late, Traced, pathIn, chainIn, Clashing}
 use Rattle.blocking.specs.Blocking.{ChainsIn}
 use Rattle.blocking.proofs.PathLaws.{up-root}
 use Rattle.blocking.proofs.ChainsLaws.{path-size, launch-late, root-in, height-one}
@@ -67,8 +67,8 @@ module _ {ws : List ℕ} {n m k : ℕ} {answer S : List ℕ} (x : Clashing ws n 
     first-short ef =
         rw ef (first-few (eqb (pairAt ws (getD S′ (n + b) 0 / perPair) .launch) (pairAt ws (getD S′ (n + b) 0 / perPair) .capture)) (getD S′ (n + b) 0))
 
-    module _ {count : ℕ} (ec : count ≡ heightOf S (pairAt ws k .launch)) {first : ℕ} {a1 : List ℕ} (ef : first ≡ length (firstChain ws (getD S′ (n + b) 0)))
-        (h1 : a1 ≡ over (firstChain ws (getD S′ (n + b) 0)) answer) where
+    module _ {count : ℕ} (ec : count ≡ heightOf S (pairAt ws k .launch)) {first : ℕ} {a1 : List ℕ}
+        (ef : first ≡ length (firstChain ws (getD S′ (n + b) 0))) (h1 : a1 ≡ over (firstChain ws (getD S′ (n + b) 0)) answer) where
       pub height-short : count + 1 ≤ n
       height-short = omega (arith, ec, height-one ws n m k answer S x)
 
@@ -79,7 +79,8 @@ module _ {ws : List ℕ} {n m k : ℕ} {answer S : List ℕ} (x : Clashing ws n 
           ∙ (ap (λ (j : ℕ). length (firstChain ws (getD S′ (n + b) 0)) + j) (length-drop (length (firstChain ws (getD S′ (n + b) 0))) answer)
           ∙ omega (arith, ef, first-short ef, x .room, root-below)))
 
-      pub second-asks : (at : ℕ) → at ≤ 2 → PairIn ws k × (count ≤ maxRegisters) × (2 * n + count ≤ length S′) × (at + 2 * count + 2 ≤ length a1)
+      pub second-asks : (at : ℕ) → at ≤ 2
+          → PairIn ws k × (count ≤ maxRegisters) × (2 * n + count ≤ length S′) × (at + 2 * count + 2 ≤ length a1)
       second-asks at h = (
         pair-in ws (x .growing .lent .list) (x .below),
         omega (arith, height-short, few),
@@ -87,12 +88,12 @@ module _ {ws : List ℕ} {n m k : ℕ} {answer S : List ℕ} (x : Clashing ws n 
         omega (arith, height-short, a1-size, x .room),
       )
 
-      module _ {second : ℕ} {a2 : List ℕ} (es : second ≡ length (chainBy ws k b (downward n count S′) (upward n count S′)))
-          (h2 : a2 ≡ over (take first a1 ++ chainBy ws k b (downward n count S′) (upward n count S′)) a1) where
+      module _ {second : ℕ} {a2 : List ℕ} (es : second ≡ length (chainIn ws n k b count S′))
+          (h2 : a2 ≡ over (take first a1 ++ chainIn ws n k b count S′) a1) where
         same-first : firstChain ws (getD S′ (n + b) 0) ≡ chainsOf ws n S k .first
         same-first = ap (firstChain ws) same-step
 
-        same-second : chainBy ws k b (downward n count S′) (upward n count S′) ≡ chainsOf ws n S k .second
+        same-second : chainIn ws n k b count S′ ≡ chainsOf ws n S k .second
         same-second =
             rw (ec, traced-down ws n m (pairAt ws k .launch) S late t, traced-up ws n m (pairAt ws k .launch) S late t, t .root)
 
@@ -103,14 +104,20 @@ module _ {ws : List ℕ} {n m k : ℕ} {answer S : List ℕ} (x : Clashing ws n 
 
         pub second-short : second ≤ 2 * maxRegisters + 2
         second-short =
-            omega (arith, es, by-few (eqb (pairAt ws k .capture) b) (downward n count S′) (upward n count S′) (path-size _ count) (path-size _ count), height-short, few)
+            omega (
+              arith,
+              es,
+              by-few (eqb (pairAt ws k .capture) b) (pathIn n count true S′) (pathIn n count false S′) (path-size _ count) (path-size _ count),
+              height-short,
+              few,
+            )
 
         pub chains-in : ChainsIn ws n k answer a2 S S′ (Blocked b first second)
         chains-in = record {
           told = rw (ef, es, same-first, same-second, t .root);
           stored =
               h2
-              ∙ (over-more (firstChain ws (getD S′ (n + b) 0)) (chainBy ws k b (downward n count S′) (upward n count S′)) answer (sym ef) h1
+              ∙ (over-more (firstChain ws (getD S′ (n + b) 0)) (chainIn ws n k b count S′) answer (sym ef) h1
               ∙ rw (same-first, same-second));
           size = traced-size ws n m (pairAt ws k .launch) S late t;
           rest = traced-rest ws n m (pairAt ws k .launch) S late t;

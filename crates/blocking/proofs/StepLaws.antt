@@ -90,7 +90,8 @@ module _ (t s : ℕ) (p : Pair) where
 
 -- ---- steps of the list, by their row
 
-module _ (t s : ℕ) (ws : List ℕ) (e : ℕ) (place : e / perPair < pairCount ws) (breaks : brokenRow t s (pairAt ws (e / perPair)) (e % perPair) ≡ true) where
+module _ (t s : ℕ) (ws : List ℕ) (e : ℕ) (place : e / perPair < pairCount ws)
+    (breaks : brokenRow t s (pairAt ws (e / perPair)) (e % perPair) ≡ true) where
   made : (x y : ℕ) (a b : Bool) → launchLate e ≡ a → captureLate e ≡ b → Ends (pairAt ws (e / perPair)) a b x y → Step t s (pairs ws) e x y
   made x y a b ea eb h =
       let same = pairs-at ws (record { launch = 0; capture = 0; least = 0; greatest = 0 }) (e / perPair) place in

@@ -1,5 +1,6 @@
 -- What is stored: the path in the scratch, and the chains in the answer buffer, piece by piece.
 use mathlib.Core.Path.{_≡_, refl, sym, ap, _∙_}
+use mathlib.Core.Bool.{true, false}
 use mathlib.Core.List.{List, [], _∷_, _++_, append-assoc}
 use Prim.Native.Nat.{ℕ, suc, _+_, _-_, _*_, _/_, _≤_, _<_}
 use native.Mathlib.Omega.{arith}
@@ -12,12 +13,13 @@ use Rattle.buffers.specs.Run.{run}
 use Rattle.buffers.specs.Over.{over}
 use Rattle.buffers.proofs.RunLaws.{run-at}
 use Rattle.buffers.proofs.PadLaws.{run-same}
-use Rattle.buffers.proofs.FillLaws.{Filled, filled-self, filled-size, filled-later, Filling, filling-start, filling-size, filling-end, filling-turn, set-put, over-more}
+use Rattle.buffers.proofs.FillLaws.{Filled, filled-self, filled-size, filled-later, set-put, over-more}
+use Rattle.buffers.proofs.FillLaws.{Filling, filling-start, filling-size, filling-end, filling-turn}
 use Rattle.list_format.specs.Lists.{pairCount, pairAt, PairIn}
 use Rattle.list_format.proofs.ListLaws.{few-registers}
 use Rattle.forced_late.specs.Forest.{lateEarly, lateLate, stepTo, sourceOf}
 use Rattle.forced_late.proofs.ForestLaws.{inner-most}
-use Rattle.blocking.specs.Paths.{ancestor, stepUp, heightOf, pathUp, pathDown, firstChain, chainBy, Late, Traced, upward, downward}
+use Rattle.blocking.specs.Paths.{ancestor, stepUp, heightOf, pathUp, pathDown, firstChain, chainBy, Late, Traced, pathIn}
 use Rattle.blocking.proofs.PathLaws.{up, up-child}
 use Rattle.blocking.proofs.ChainsLaws.{path-size}
 
@@ -83,7 +85,8 @@ module _ (ws : List ℕ) (n m r : ℕ) (S : List ℕ) (l : Late ws n m S r) wher
     pub tracing-small : getD S′ (n + at) 0 < perPair * maxPairs
     tracing-small = omega (arith, tracing-pair .below, l .growing .lent .list .usable .few)
 
-    pub tracing-turn : {next : ℕ} → next ≡ sourceOf ws (getD S′ (n + at) 0) → Tracing height (set S′ (2 * n + i) (getD S′ (n + at) 0)) next (i + 1)
+    pub tracing-turn : {next : ℕ} → next ≡ sourceOf ws (getD S′ (n + at) 0)
+        → Tracing height (set S′ (2 * n + i) (getD S′ (n + at) 0)) next (i + 1)
     unfolding ancestor
     tracing-turn e =
         let z : i + 1 ≡ suc i = omega arith in
@@ -91,7 +94,8 @@ module _ (ws : List ℕ) (n m r : ℕ) (S : List ℕ) (l : Late ws n m S r) wher
           heightIs = x .heightIs;
           atIs = rw z (e ∙ ap (sourceOf ws) tracing-step);
           filling =
-              filling-turn 1 (λ k. refl) (omega (arith, front, x .heightIs, height-few, l .growing .lent .room)) (x .filling) h (2 * n + i) (omega (arith, front))
+              filling-turn 1 (λ k. refl) (omega (arith, front, x .heightIs, height-few, l .growing .lent .room)) (x .filling) h (2 * n + i)
+              (omega (arith, front))
               (ap (set S′ (2 * n + i)) tracing-step ∙ set-put S′ (2 * n + i) _ tracing-writes);
         }
 
@@ -108,7 +112,8 @@ module _ (ws : List ℕ) (n m r : ℕ) (S : List ℕ) (l : Late ws n m S r) wher
   module _ {S′ : List ℕ} {b : ℕ} (x : Traced ws n r S S′ b) where
     traced : Filled (take (2 * n) S ++ pathUp ws n S r) S S′
     traced = record {
-      room = rw (length-append (take (2 * n) S) (pathUp ws n S r)) (omega (arith, front, path-size (stepUp ws n S r) (heightOf S r), height-few, l .growing .lent .room));
+      room = rw (length-append (take (2 * n) S) (pathUp ws n S r))
+          (omega (arith, front, path-size (stepUp ws n S r) (heightOf S r), height-few, l .growing .lent .room));
       is = x .stored;
     }
 
@@ -133,13 +138,14 @@ module _ (ws : List ℕ) (n m r : ℕ) (S : List ℕ) (l : Late ws n m S r) wher
         let past : getD (take (2 * n) S ++ pathUp ws n S r) (length (take (2 * n) S) + j) 0 ≡ getD (pathUp ws n S r) j 0 =
         getD-append-add (take (2 * n) S) (pathUp ws n S r) j 0 in
         ap (λ (y : List ℕ). getD y (2 * n + j) 0) (x .stored)
-        ∙ (List·getD-append (take (2 * n) S ++ pathUp ws n S r) _ 0 (2 * n + j) (rw (length-append (take (2 * n) S) (pathUp ws n S r)) (omega (arith, front, size)))
+        ∙ (List·getD-append (take (2 * n) S ++ pathUp ws n S r) _ 0 (2 * n + j)
+        (rw (length-append (take (2 * n) S) (pathUp ws n S r)) (omega (arith, front, size)))
         ∙ ((rw front at past) ∙ (rw e at (run-at (λ (i : ℕ). stepUp ws n S r i ∷ []) 1 (λ k. refl) (heightOf S r) j 0 h (omega arith)))))
 
-    pub traced-up : upward n (heightOf S r) S′ ≡ pathUp ws n S r
+    pub traced-up : pathIn n (heightOf S r) false S′ ≡ pathUp ws n S r
     traced-up = run-same _ _ (heightOf S r) (λ i h. ap (λ (y : ℕ). y ∷ []) (traced-at i h))
 
-    pub traced-down : downward n (heightOf S r) S′ ≡ pathDown ws n S r
+    pub traced-down : pathIn n (heightOf S r) true S′ ≡ pathDown ws n S r
     traced-down = run-same _ _ (heightOf S r) (λ i h. ap (λ (y : ℕ). y ∷ []) (traced-at (heightOf S r - 1 - i) (omega arith)))
 
 -- ---- the answer buffer
@@ -148,7 +154,8 @@ module _ (ws : List ℕ) (n m r : ℕ) (S : List ℕ) (l : Late ws n m S r) wher
 pub put-one : (now : List ℕ) (at v : ℕ) → at < length now → set now at v ≡ over (take at now ++ (v ∷ [])) now
 put-one now at v h =
     let e : length (take at now ++ (v ∷ [])) ≡ at + 1 = length-append (take at now) (v ∷ []) ∙ omega (arith, length-take-le at now (omega arith)) in
-    set-put now at v h ∙ (sym (append-assoc (take at now) (v ∷ []) (drop (at + 1) now)) ∙ ap (λ (j : ℕ). (take at now ++ (v ∷ [])) ++ drop j now) (sym e))
+    set-put now at v h
+    ∙ (sym (append-assoc (take at now) (v ∷ []) (drop (at + 1) now)) ∙ ap (λ (j : ℕ). (take at now ++ (v ∷ [])) ++ drop j now) (sym e))
 
 -- a part of a path, from place `at` on
 module _ (f : ℕ → ℕ) (count at : ℕ) (was : List ℕ) (fits : at + count ≤ length was) where

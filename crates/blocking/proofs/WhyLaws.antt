@@ -92,9 +92,11 @@ module _ {ws : List ℕ} {n m : ℕ} (list : UsableList ws n m) (t s : ℕ) (S :
       go false false false ea eb e =
           absurd (omega (arith, ltb-false 0 (depthOf S (pairAt ws k .capture)) eb, seeded k h (row-recorded k h earlyEarly (omega arith) (ap not e))))
       go false true false ea eb e =
-          absurd (omega (arith, ltb-false 0 (depthOf S (pairAt ws k .launch)) ea, closed k h .1 (row-recorded k h earlyLate (omega arith) (ap not e)) (ltb-true _ _ eb)))
+          let late = closed k h .1 (row-recorded k h earlyLate (omega arith) (ap not e)) (ltb-true _ _ eb) in
+          absurd (omega (arith, ltb-false 0 (depthOf S (pairAt ws k .launch)) ea, late))
       go true false false ea eb e =
-          absurd (omega (arith, ltb-false 0 (depthOf S (pairAt ws k .capture)) eb, closed k h .0 (row-recorded k h lateEarly (omega arith) (ap not e)) (ltb-true _ _ ea)))
+          let late = closed k h .0 (row-recorded k h lateEarly (omega arith) (ap not e)) (ltb-true _ _ ea) in
+          absurd (omega (arith, ltb-false 0 (depthOf S (pairAt ws k .capture)) eb, late))
       go true true false ea eb e =
           absurd (clear k h (record { breaks = row-recorded k h lateLate (omega arith) (ap not e); late = ltb-true _ _ ea }))
 
@@ -231,7 +233,8 @@ module _ (ws : List ℕ) (period : ℕ) (answer scratch : List ℕ) where
             not-workable q = let y : _≡_ {A = ℕ} 0 1 = cc in absurd (omega arith)
 
             named : (register first second : ℕ)
-                → Blocked (chainsOf ws n S k .register) (length (chainsOf ws n S k .first)) (length (chainsOf ws n S k .second)) ≡ Blocked register first second
+                → Blocked (chainsOf ws n S k .register) (length (chainsOf ws n S k .first)) (length (chainsOf ws n S k .second))
+                ≡ Blocked register first second
                 → BlockedBy ws period (chainsOf ws n S k) register first second
             named register first second q = record {
               registerIs = cc;

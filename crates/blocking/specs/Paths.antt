@@ -1,6 +1,6 @@
 -- The chains that a forest of registers forced late gives, where a pair whose choice late-late is broken has a late launch.
 use mathlib.Core.Path.{_≡_}
-use mathlib.Core.Bool.{cond}
+use mathlib.Core.Bool.{Bool, true, false, cond}
 use mathlib.Core.List.{List, [], _∷_, _++_}
 use Prim.Native.Nat.{ℕ, zero, suc, _+_, _-_, _*_, _/_, _≤_, _<_}
 use lib.Dec.{eqb}
@@ -8,7 +8,7 @@ use lib.ListN.{length, getD, take}
 use Rattle.timing.specs.Limits.{perPair}
 use Rattle.buffers.specs.Run.{run}
 use Rattle.buffers.specs.Over.{over}
-use Rattle.list_format.specs.Lists.{pairCount, pairAt}
+use Rattle.list_format.specs.Lists.{pairCount, pairAt, placeOf}
 use Rattle.chain_laws.specs.Chains.{Chains}
 use Rattle.forced_late.specs.Forest.{lateEarly, lateLate, depthOf, stepTo, sourceOf, Growing, IsSeeded, Clashes}
 
@@ -73,12 +73,13 @@ pub record Traced (ws : List ℕ) (n r : ℕ) (S S′ : List ℕ) (b : ℕ) : Ty
   pub root : b ≡ rootOf ws n S r
   pub stored : S′ ≡ over (take (2 * n) S ++ pathUp ws n S r) S
 
--- so many numbers from place 2n on, in order and backwards
-abbrev pub upward : ℕ → ℕ → List ℕ → List ℕ
-upward n count S = run (λ i. getD S (2 * n + i) 0 ∷ []) count
+-- so many steps from place 2n on, in their order or the last of them first
+abbrev pub pathIn : ℕ → ℕ → Bool → List ℕ → List ℕ
+pathIn n count down S = run (λ i. getD S (2 * n + placeOf count down i) 0 ∷ []) count
 
-abbrev pub downward : ℕ → ℕ → List ℕ → List ℕ
-downward n count S = run (λ i. getD S (2 * n + (count - 1 - i)) 0 ∷ []) count
+-- the second chain along such a path
+abbrev pub chainIn : List ℕ → ℕ → ℕ → ℕ → ℕ → List ℕ → List ℕ
+chainIn ws n k b count S = chainBy ws k b (pathIn n count true S) (pathIn n count false S)
 
 -- pair k clashes, every critical capture is a root, and there is room for the answer
 pub record Clashing (ws : List ℕ) (n m k : ℕ) (answer S : List ℕ) : Type 0 where

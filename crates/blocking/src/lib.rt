@@ -10,7 +10,7 @@ ghost use Rattle.refusals.specs.Checks.{firstFault};
 ghost use Rattle.list_format.specs.Lists.{PairIn};
 ghost use Rattle.propagate.specs.Store.{Lent};
 ghost use Rattle.forced_late.specs.Forest.{earlyEarly, sourceOf};
-ghost use Rattle.blocking.specs.Paths.{firstChain, chainBy, upward, downward, Late, Traced, Clashing};
+ghost use Rattle.blocking.specs.Paths.{firstChain, pathIn, chainIn, Late, Traced, Clashing};
 ghost use Rattle.blocking.specs.Blocking.{whyCallChecks, ChainsIn, Ready, WhyAs, WhyAllowed};
 use forced_late::LATE_EARLY;
 use forced_late::LATE_LATE;
@@ -89,26 +89,14 @@ fn put_first(words: &[u32], step: usize, answer: &mut [u32]) -> usize
     2
 }
 
-// So many steps from place 2n of the scratch on, the last of them first.
-fn put_down(n: usize, count: usize, scratch: &[u32], at: usize, answer: &mut [u32])
+// So many steps from place 2n of the scratch on, in their order or the last of them first.
+fn put_path(n: usize, count: usize, down: bool, scratch: &[u32], at: usize, answer: &mut [u32])
     requires { ⌜ (2 * n + count ≤ length (now scratch)) × (at + count ≤ length (now answer)) ⌝ }
-    ensures { λ _. ⌜ now (answer .exit) ≡ over (take at (now (answer .entry)) ++ downward n count (now (scratch .entry))) (now (answer .entry)) ⌝ }
+    ensures { λ _. ⌜ now (answer .exit) ≡ over (take at (now (answer .entry)) ++ pathIn n count down (now (scratch .entry))) (now (answer .entry)) ⌝ }
 {
     let mut i = 0;
     while i < count {
-        answer[at + i] = scratch[2 * n + (count - 1 - i)];
-        i += 1;
-    }
-}
-
-// The same in their order.
-fn put_up(n: usize, count: usize, scratch: &[u32], at: usize, answer: &mut [u32])
-    requires { ⌜ (2 * n + count ≤ length (now scratch)) × (at + count ≤ length (now answer)) ⌝ }
-    ensures { λ _. ⌜ now (answer .exit) ≡ over (take at (now (answer .entry)) ++ upward n count (now (scratch .entry))) (now (answer .entry)) ⌝ }
-{
-    let mut i = 0;
-    while i < count {
-        answer[at + i] = scratch[2 * n + i];
+        answer[at + i] = scratch[2 * n + delay_list::place(count, i, down)];
         i += 1;
     }
 }
@@ -127,19 +115,18 @@ fn put_second(
 ) -> usize
     requires { ⌜ PairIn (now words) k × (count ≤ maxRegisters) × (2 * n + count ≤ length (now scratch))
         × (at + 2 * count + 2 ≤ length (now answer)) ⌝ }
-    ensures size { λ r. ⌜ r ≡ length (chainBy (now (words .entry)) k b (downward n count (now (scratch .entry))) (upward n count (now (scratch .entry)))) ⌝ }
-    ensures stored { λ _. ⌜ now (answer .exit) ≡ over (take at (now (answer .entry))
-        ++ chainBy (now (words .entry)) k b (downward n count (now (scratch .entry))) (upward n count (now (scratch .entry))))
+    ensures size { λ r. ⌜ r ≡ length (chainIn (now (words .entry)) n k b count (now (scratch .entry))) ⌝ }
+    ensures stored { λ _. ⌜ now (answer .exit) ≡ over (take at (now (answer .entry)) ++ chainIn (now (words .entry)) n k b count (now (scratch .entry)))
         (now (answer .entry)) ⌝ }
 {
     let p = delay_list::pair_at(words, k);
-    put_down(n, count, scratch, at, answer);
+    put_path(n, count, true, scratch, at, answer);
     put_step(answer, at + count, PER_PAIR * k + LATE_LATE);
     if p.capture as usize == b {
         return count + 1;
     }
     put_step(answer, at + count + 1, PER_PAIR * k + LATE_EARLY);
-    put_up(n, count, scratch, at + count + 2, answer);
+    put_path(n, count, false, scratch, at + count + 2, answer);
     2 * count + 2
 }
 

@@ -38,7 +38,8 @@ inner-root [] a h e = absurd (omega arith)
 inner-root (x ∷ M) zero h e = rw e (omega (arith, inner-most M))
 inner-root (x ∷ M) (suc a) h e = omega (arith, inner-one x, inner-root M a (omega arith) e)
 
-pub inner-roots : (M : List ℕ) (a b : ℕ) → a < length M → b < length M → (a ≡ b → ⊥) → getD M a 0 ≡ 1 → getD M b 0 ≡ 1 → inner M + 2 ≤ length M
+pub inner-roots : (M : List ℕ) (a b : ℕ) → a < length M → b < length M → (a ≡ b → ⊥) → getD M a 0 ≡ 1 → getD M b 0 ≡ 1
+    → inner M + 2 ≤ length M
 inner-roots [] a b h k ne ea eb = absurd (omega arith)
 inner-roots (x ∷ M) zero zero h k ne ea eb = absurd (ne refl)
 inner-roots (x ∷ M) zero (suc b) h k ne ea eb = rw ea (omega (arith, inner-root M b (omega arith) eb))
@@ -47,7 +48,8 @@ inner-roots (x ∷ M) (suc a) (suc b) h k ne ea eb =
     omega (arith, inner-one x, inner-roots M a b (omega arith) (omega arith) (λ z. ne (ap suc z)) ea eb)
 
 -- what lies from place 2n on is the same, so the same choices are broken
-pub still-broken : (n : ℕ) (S S′ : List ℕ) → drop (2 * n) S′ ≡ drop (2 * n) S → (e : ℕ) → getD S′ (perRegister * n + e) 0 ≡ getD S (perRegister * n + e) 0
+pub still-broken : (n : ℕ) (S S′ : List ℕ) → drop (2 * n) S′ ≡ drop (2 * n) S → (e : ℕ)
+    → getD S′ (perRegister * n + e) 0 ≡ getD S (perRegister * n + e) 0
 still-broken n S S′ h e =
     let z : perRegister * n + e ≡ 2 * n + (4 * n + e) = omega arith in
     rw z (sym (getD-drop (2 * n) S′ (4 * n + e) 0) ∙ ap (λ (l : List ℕ). getD l (4 * n + e) 0) h ∙ getD-drop (2 * n) S (4 * n + e) 0)

@@ -17,7 +17,8 @@ use Rattle.propagate.proofs.StoreLaws.{lent-kept}
 use Rattle.forced_late.specs.Forest.{depthOf, IsBroken, isInner, inner, earlyEarly, earlyLate, lateEarly, sourceOf, putAt}
 use Rattle.forced_late.specs.Forest.{Root, Child, Forest, Growing, MarkedAs, Marked, GrowTold, Grew, Grows, Along, Forces, PairForces, AllForce}
 use Rattle.forced_late.specs.Forest.{SettledAs, IsSeeded, Roots, Rooted, Seeding, Blank, ForcedLate}
-use Rattle.forced_late.proofs.ForestLaws.{inner-most, still-broken, ends-in, put-size, put-rest, put-inner, put-fewer, put-depth, put-depth-other, put-kept, forest-put}
+use Rattle.forced_late.proofs.ForestLaws.{inner-most, still-broken, ends-in}
+use Rattle.forced_late.proofs.ForestLaws.{put-size, put-rest, put-inner, put-fewer, put-depth, put-depth-other, put-kept, forest-put}
 
 -- ---- steps
 
@@ -50,7 +51,8 @@ module _ (ws : List ℕ) (n : ℕ) where
   told-then C D S S′ S″ true false h k = subst⁻¹ (λ (X : List ℕ). unset (take n X) < unset (take n S)) (k .0) h
   told-then C D S S′ S″ true true h k = omega arith
 
-  pub grows-then : {C D : List ℕ → Type 0} {S S′ S″ : List ℕ} {o o′ o″ : Bool} → o″ ≡ (o || o′) → Grows ws n C S S′ o → Grows ws n D S′ S″ o′
+  pub grows-then : {C D : List ℕ → Type 0} {S S′ S″ : List ℕ} {o o′ o″ : Bool} → o″ ≡ (o || o′) → Grows ws n C S S′ o
+      → Grows ws n D S′ S″ o′
       → Grows ws n (λ (X : List ℕ). C X × D X) S S″ o″
   grows-then {C} {D} {S} {S′} {S″} {o} {o′} e h k =
       rw e (record { grew = grew-then (h .grew) (k .grew); told = told-then C D S S′ S″ o o′ (h .told) (k .told) })
@@ -152,7 +154,8 @@ module _ (ws : List ℕ) (n : ℕ) where
 
   -- ---- until nothing is marked
 
-  pub settle-fewer : {C : List ℕ → Type 0} {S S′ : List ℕ} {o : Bool} → Grows ws n C S S′ o → o ≡ true → unset (take n S′) < unset (take n S)
+  pub settle-fewer : {C : List ℕ → Type 0} {S S′ : List ℕ} {o : Bool} → Grows ws n C S S′ o → o ≡ true
+      → unset (take n S′) < unset (take n S)
   settle-fewer {C} {S} {S′} {o} h e = subst (λ (b : Bool). GrowTold b n C S S′) e (h .told)
 
   pub settle-end : {S S′ S″ : List ℕ} {o : Bool} → Grew ws n S S′ → Grows ws n (AllForce ws n) S′ S″ o → o ≡ false → SettledAs ws n S S″
@@ -162,7 +165,8 @@ module _ (ws : List ℕ) (n : ℕ) where
 
   -- ---- the roots
 
-  seeded-kept : {m : ℕ} {S S′ : List ℕ} (k : ℕ) → UsableList ws n m → k < pairCount ws → Grew ws n S S′ → IsSeeded ws n k S → IsSeeded ws n k S′
+  seeded-kept : {m : ℕ} {S S′ : List ℕ} (k : ℕ) → UsableList ws n m → k < pairCount ws → Grew ws n S S′
+      → IsSeeded ws n k S → IsSeeded ws n k S′
   seeded-kept {m} {S} {S′} k list h g e b =
       let d : depthOf S (pairAt ws k .capture) ≡ 1 = e (sym (still-broken n S S′ (g .rest) (perPair * k + earlyEarly)) ∙ b) in
       g .kept (pairAt ws k .capture) (ends-in list k h .1) (omega (arith, d)) ∙ d
@@ -249,7 +253,8 @@ module _ (ws : List ℕ) (n : ℕ) where
 
   -- ---- the whole
 
-  pub forced : {m : ℕ} {S S′ S″ S‴ : List ℕ} → Blank ws n m S → Seeding ws n S S′ m → Grew ws n S′ S″ → SettledAs ws n S″ S‴ → ForcedLate ws n S S‴
+  pub forced : {m : ℕ} {S S′ S″ S‴ : List ℕ} → Blank ws n m S → Seeding ws n S S′ m → Grew ws n S′ S″ → SettledAs ws n S″ S‴
+      → ForcedLate ws n S S‴
   forced {m} {S} {S′} {S″} {S‴} b s w c =
       let list = b .lent .list in
       let later : Grew ws n S′ S‴ = grew-then w (c .grew) in

@@ -7,7 +7,11 @@ use Rattle.blocking.proofs.call_fault.Tie as tie
 returns : tie.Need-returns
 unfolding orCheck faultAfter
 returns c =
-    rw (c .or4 .ensures, c .before .or3 .ensures, c .before .before .or2 .ensures, c .before .before .before .or .ensures, c .before .before .before .before .scratch-places .ensures)
+    let w = c .before in
+    let v = w .before in
+    let u = v .before in
+    let y = u .before in
+    rw (c .or4 .ensures, w .or3 .ensures, v .or2 .ensures, u .or .ensures, y .scratch-places .ensures)
 
 pub call-fault-spec : {M : Type 1} → statement M
 call-fault-spec =

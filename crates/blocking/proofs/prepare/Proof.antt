@@ -5,10 +5,18 @@ use Rattle.blocking.proofs.prepare.Statement.{statement}
 use Rattle.blocking.proofs.prepare.Tie as tie
 
 force-late-requires : tie.Need-force-late-requires
-force-late-requires c κs = prepared-blank (c .before .before .before .before .before .before .before .before .before .pre) (c .before .before .before .prepare .ensures)
+force-late-requires c κs =
+    let w = c .before .before .before in
+    let b = w .before .before .before .before .before .before in
+    prepared-blank (b .pre) (w .prepare .ensures)
 
 returns : tie.Need-returns
-returns c = made-ready (rw (c .before .before .before .before .before .before .before .before .less .ensures, c .before .before .before .before .before .before .before .before .before .common .ensures) at (c .before .before .before .before .before .before .prepare .ensures)) (c .before .before .force-late .ensures)
+returns c =
+    let w = c .before .before in
+    let v = w .before .before .before .before in
+    let u = v .before .before in
+    let y = u .before in
+    made-ready (rw (u .less .ensures, y .common .ensures) at (v .prepare .ensures)) (w .force-late .ensures)
 
 pub prepare-spec : {M : Type 1} → statement M
 prepare-spec =

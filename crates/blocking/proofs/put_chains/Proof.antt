@@ -12,68 +12,114 @@ use Rattle.blocking.proofs.put_chains.Tie as tie
 
 cast-count-2 : tie.Need-cast-count-2
 cast-count-2 c =
-    let b = c .before .before .before .before .before .before in
-    let h : depthOf (now (b .args .scratch)) (c .before .before .pair-at .result .launch) ≤ 1 + maxRegisters = rw (c .before .before .pair-at .ensures .same) (launch-few (b .pre)) in
+    let w = c .before .before in
+    let b = w .before .before .before .before in
+    let h : depthOf (now (b .args .scratch)) (w .pair-at .result .launch) ≤ 1 + maxRegisters = rw (w .pair-at .ensures .same) (launch-few (b .pre)) in
     search (needs, h)
 
 sub-count : tie.Need-sub-count
 sub-count c =
-    let b = c .before .before .before .before .before .before in
-    let h : 1 ≤ depthOf (now (b .args .scratch)) (c .before .before .pair-at .result .launch) = rw (c .before .before .pair-at .ensures .same) (b .pre .clashes .late) in
+    let w = c .before .before in
+    let b = w .before .before .before .before in
+    let h : 1 ≤ depthOf (now (b .args .scratch)) (w .pair-at .result .launch) = rw (w .pair-at .ensures .same) (b .pre .clashes .late) in
     search (needs, h)
 
 trace-requires : tie.Need-trace-requires
 trace-requires c κs =
-    let b = c .before .before .before .before .before .before .before .before in
+    let w = c .before .before .before .before in
+    let b = w .before .before .before .before in
     let a = b .args in
-    rw (c .before .before .before .before .pair-at .ensures .same) (launch-late (now (a .words)) (a .n) (a .m) (a .k) (now (a .answer)) (now (a .scratch)) (b .pre))
+    rw (w .pair-at .ensures .same) (launch-late (now (a .words)) (a .n) (a .m) (a .k) (now (a .answer)) (now (a .scratch)) (b .pre))
 
 add-step : tie.Need-add-step
-add-step c = search (needs, root-few (c .before .before .before .before .before .before .before .before .before .before .before .pre) (rw (c .before .before .before .before .before .before .before .pair-at .ensures .same) at (c .before .before .trace .ensures)))
+add-step c =
+    let w = c .before .before in
+    let v = w .before .before .before .before .before in
+    let b = v .before .before .before .before in
+    search (needs, root-few (b .pre) (rw (v .pair-at .ensures .same) at (w .trace .ensures)))
 
 mul-step : tie.Need-mul-step
-mul-step c = search (needs, root-few (c .before .before .before .before .before .before .before .before .before .before .before .pre) (rw (c .before .before .before .before .before .before .before .pair-at .ensures .same) at (c .before .before .trace .ensures)))
+mul-step c =
+    let w = c .before .before in
+    let v = w .before .before .before .before .before in
+    let b = v .before .before .before .before in
+    search (needs, root-few (b .pre) (rw (v .pair-at .ensures .same) at (w .trace .ensures)))
 
 slice-read-step : tie.Need-slice-read-step
-slice-read-step c = root-reads (c .before .before .before .before .before .before .before .before .before .before .before .before .pre) (rw (c .before .before .before .before .before .before .before .before .pair-at .ensures .same) at (c .before .before .before .trace .ensures))
+slice-read-step c =
+    let w = c .before .before .before in
+    let v = w .before .before .before .before .before in
+    let b = v .before .before .before .before in
+    root-reads (b .pre) (rw (v .pair-at .ensures .same) at (w .trace .ensures))
 
 cast-step : tie.Need-cast-step
-cast-step c = search (needs, step-small (c .before .before .before .before .before .before .before .before .before .before .before .before .pre) (rw (c .before .before .before .before .before .before .before .before .pair-at .ensures .same) at (c .before .before .before .trace .ensures)))
+cast-step c =
+    let w = c .before .before .before in
+    let v = w .before .before .before .before .before in
+    let b = v .before .before .before .before in
+    search (needs, step-small (b .pre) (rw (v .pair-at .ensures .same) at (w .trace .ensures)))
 
 put-first-requires : tie.Need-put-first-requires
-put-first-requires c κs = first-asks (c .before .before .before .before .before .before .before .before .before .before .before .before .before .pre) (rw (c .before .before .before .before .before .before .before .before .before .pair-at .ensures .same) at (c .before .before .before .before .trace .ensures))
+put-first-requires c κs =
+    let w = c .before .before .before .before in
+    let v = w .before .before .before .before .before in
+    let b = v .before .before .before .before in
+    first-asks (b .pre) (rw (v .pair-at .ensures .same) at (w .trace .ensures))
 
 put-second-requires : tie.Need-put-second-requires
 put-second-requires c κs =
-    let same = c .before .before .before .before .before .before .before .before .before .before .before .before .before .before .pair-at .ensures .same in
-    let t = rw same at (c .before .before .before .before .before .before .before .before .before .trace .ensures) in
-    second-asks (c .before .before .before .before .before .before .before .before .before .before .before .before .before .before .before .before .before .before .pre) t (rw same refl) (c .before .before .before .before .put-first .ensures .0) (c .before .before .before .before .put-first .ensures .1) _
-    (search (needs, first-short (c .before .before .before .before .before .before .before .before .before .before .before .before .before .before .before .before .before .before .pre) t (c .before .before .before .before .put-first .ensures .0)))
+    let w = c .before .before .before .before in
+    let v = w .before .before .before .before .before in
+    let u = v .before .before .before .before .before in
+    let b = u .before .before .before .before in
+    let same = u .pair-at .ensures .same in
+    let t = rw same at (v .trace .ensures) in
+    second-asks (b .pre) t (rw same refl) (w .put-first .ensures .0) (w .put-first .ensures .1) _
+    (search (needs, first-short (b .pre) t (w .put-first .ensures .0)))
 
 cast-t16 : tie.Need-cast-t16
-cast-t16 c = search (needs, root-few (c .before .before .before .before .before .before .before .before .before .before .before .before .before .before .before .before .before .before .before .before .before .pre) (rw (c .before .before .before .before .before .before .before .before .before .before .before .before .before .before .before .before .before .pair-at .ensures .same) at (c .before .before .before .before .before .before .before .before .before .before .before .before .trace .ensures)))
+cast-t16 c =
+    let w = c .before .before .before .before .before .before .before .before .before .before .before .before in
+    let v = w .before .before .before .before .before in
+    let b = v .before .before .before .before in
+    search (needs, root-few (b .pre) (rw (v .pair-at .ensures .same) at (w .trace .ensures)))
 
 cast-t27 : tie.Need-cast-t27
 cast-t27 c =
-    let same = c .before .before .before .before .before .before .before .before .before .before .before .before .before .before .before .before .before .pair-at .ensures .same in
-    let t = rw same at (c .before .before .before .before .before .before .before .before .before .before .before .before .trace .ensures) in
-    let first = c .before .before .before .before .before .before .before .put-first .ensures in
-    let second = c .before .before .put-second .ensures in
-    search (needs, first-short (c .before .before .before .before .before .before .before .before .before .before .before .before .before .before .before .before .before .before .before .before .before .pre) t (first .0), second-short (c .before .before .before .before .before .before .before .before .before .before .before .before .before .before .before .before .before .before .before .before .before .pre) t (rw same refl) (first .0) (first .1) (second .0) (second .1))
+    let w = c .before .before in
+    let v = w .before .before .before .before .before in
+    let u = v .before .before .before .before .before in
+    let y = u .before .before .before .before .before in
+    let b = y .before .before .before .before in
+    let same = y .pair-at .ensures .same in
+    let t = rw same at (u .trace .ensures) in
+    let first = v .put-first .ensures in
+    let second = w .put-second .ensures in
+    search (needs, first-short (b .pre) t (first .0), second-short (b .pre) t (rw same refl) (first .0) (first .1) (second .0) (second .1))
 
 cast-t28 : tie.Need-cast-t28
 cast-t28 c =
-    let same = c .before .before .before .before .before .before .before .before .before .before .before .before .before .before .before .before .before .pair-at .ensures .same in
-    let t = rw same at (c .before .before .before .before .before .before .before .before .before .before .before .before .trace .ensures) in
-    let first = c .before .before .before .before .before .before .before .put-first .ensures in
-    let second = c .before .before .put-second .ensures in
-    search (needs, first-short (c .before .before .before .before .before .before .before .before .before .before .before .before .before .before .before .before .before .before .before .before .before .pre) t (first .0), second-short (c .before .before .before .before .before .before .before .before .before .before .before .before .before .before .before .before .before .before .before .before .before .pre) t (rw same refl) (first .0) (first .1) (second .0) (second .1))
+    let w = c .before .before in
+    let v = w .before .before .before .before .before in
+    let u = v .before .before .before .before .before in
+    let y = u .before .before .before .before .before in
+    let b = y .before .before .before .before in
+    let same = y .pair-at .ensures .same in
+    let t = rw same at (u .trace .ensures) in
+    let first = v .put-first .ensures in
+    let second = w .put-second .ensures in
+    search (needs, first-short (b .pre) t (first .0), second-short (b .pre) t (rw same refl) (first .0) (first .1) (second .0) (second .1))
 
 returns : tie.Need-returns
 returns c =
-    let same = c .before .before .before .before .before .before .before .before .before .before .before .before .before .before .before .before .before .pair-at .ensures .same in
-    chains-in (c .before .before .before .before .before .before .before .before .before .before .before .before .before .before .before .before .before .before .before .before .before .pre) (rw same at (c .before .before .before .before .before .before .before .before .before .before .before .before .trace .ensures)) (rw same refl) (c .before .before .before .before .before .before .before .put-first .ensures .0) (c .before .before .before .before .before .before .before .put-first .ensures .1)
-    (c .before .before .put-second .ensures .0) (c .before .before .put-second .ensures .1)
+    let w = c .before .before in
+    let v = w .before .before .before .before .before in
+    let u = v .before .before .before .before .before in
+    let y = u .before .before .before .before .before in
+    let b = y .before .before .before .before in
+    let same = y .pair-at .ensures .same in
+    chains-in (b .pre) (rw same at (u .trace .ensures)) (rw same refl) (v .put-first .ensures .0) (v .put-first .ensures .1)
+    (w .put-second .ensures .0) (w .put-second .ensures .1)
 
 pub put-chains-spec : {M : Type 1} → statement M
 put-chains-spec =

@@ -7,14 +7,22 @@ use Rattle.blocking.proofs.put_first.Tie as tie
 
 returns : tie.Need-returns
 returns c =
-    let a = c .before .before .before .before .before .before .before .before .before .args in
-    first-one (now (a .words)) (a .step) (now (a .answer)) (rw (c .before .before .before .before .before .before .pair-at .ensures .same) at (c .if1 .taken)) (c .before .before .before .before .put-step .ensures)
+    let w = c .before .before .before .before in
+    let v = w .before .before in
+    let b = v .before .before .before in
+    let a = b .args in
+    first-one (now (a .words)) (a .step) (now (a .answer)) (rw (v .pair-at .ensures .same) at (c .if1 .taken)) (w .put-step .ensures)
 
 returns-2 : tie.Need-returns-2
 returns-2 c =
-    let a = c .before .before .before .before .before .before .before .before .before .before .before .before .before .args in
-    first-two (now (a .words)) (a .step) (now (a .answer)) (λ q. c .before .before .before .before .if1 .left (rw (c .before .before .before .before .before .before .before .before .before .before .pair-at .ensures .same) q)) (c .before .before .before .before .before .before .before .before .put-step .ensures)
-    (c .before .before .put-step2 .ensures)
+    let w = c .before .before in
+    let v = w .before .before in
+    let u = v .before .before .before .before in
+    let y = u .before .before in
+    let b = y .before .before .before in
+    let a = b .args in
+    first-two (now (a .words)) (a .step) (now (a .answer)) (λ q. v .if1 .left (rw (y .pair-at .ensures .same) q)) (u .put-step .ensures)
+    (w .put-step2 .ensures)
 
 pub put-first-spec : {M : Type 1} → statement M
 put-first-spec =

@@ -5,10 +5,16 @@ use Rattle.blocking.proofs.source.Statement.{statement}
 use Rattle.blocking.proofs.source.Tie as tie
 
 returns : tie.Need-returns
-returns c = rw (eq-eqb _ _ (c .before .if1 .taken), c .before .before .pair-at .ensures .same)
+returns c =
+    let w = c .before in
+    let v = w .before in
+    rw (eq-eqb _ _ (w .if1 .taken), v .pair-at .ensures .same)
 
 returns-2 : tie.Need-returns-2
-returns-2 c = rw (ne-eqb _ _ (c .before .if1 .left), c .before .before .pair-at .ensures .same)
+returns-2 c =
+    let w = c .before in
+    let v = w .before in
+    rw (ne-eqb _ _ (w .if1 .left), v .pair-at .ensures .same)
 
 pub source-spec : {M : Type 1} → statement M
 source-spec =

@@ -6,7 +6,8 @@ use native.Mathlib.Omega.{arith}
 use Rattle.buffers.proofs.FillLaws.{filling-size}
 use Rattle.forced_late.proofs.GrowLaws.{depth-few}
 use Rattle.blocking.specs.Paths.{Late}
-use Rattle.blocking.proofs.StoreLaws.{Tracing, tracing-start, tracing-few, tracing-reads, tracing-writes, tracing-pair, tracing-small, tracing-turn, tracing-end}
+use Rattle.blocking.proofs.StoreLaws.{Tracing, tracing-start, tracing-few, tracing-reads, tracing-writes}
+use Rattle.blocking.proofs.StoreLaws.{tracing-pair, tracing-small, tracing-turn, tracing-end}
 use borrow.Author.Needs.{needs}
 use Rattle.blocking.proofs.trace.Statement.{statement}
 use Rattle.blocking.proofs.trace.Tie as tie
@@ -31,74 +32,106 @@ loop-holds c =
 
 add-step : tie.Need-add-step Inv-loop μ-loop
 add-step c =
-    let a = c .before .before .before .before .before .args in
-    let l = c .before .loop .inv in
+    let w = c .before in
+    let b = w .before .before .before .before in
+    let a = b .args in
+    let l = w .loop .inv in
     search (needs, tracing-few (now (a .words)) (a .n) (a .m) (a .r) (now (a .scratch)) (l .0) (l .1) (c .loop-test .taken) .0)
 
 add-scratch : tie.Need-add-scratch Inv-loop μ-loop
 add-scratch c =
-    let a = c .before .before .before .before .before .before .args in
-    let l = c .before .before .loop .inv in
-    search (needs, tracing-few (now (a .words)) (a .n) (a .m) (a .r) (now (a .scratch)) (l .0) (l .1) (c .before .loop-test .taken) .1)
+    let w = c .before in
+    let v = w .before in
+    let b = v .before .before .before .before in
+    let a = b .args in
+    let l = v .loop .inv in
+    search (needs, tracing-few (now (a .words)) (a .n) (a .m) (a .r) (now (a .scratch)) (l .0) (l .1) (w .loop-test .taken) .1)
 
 mul-step : tie.Need-mul-step Inv-loop μ-loop
 mul-step c =
-    let a = c .before .before .before .before .before .args in
-    let l = c .before .loop .inv in
+    let w = c .before in
+    let b = w .before .before .before .before in
+    let a = b .args in
+    let l = w .loop .inv in
     search (needs, tracing-few (now (a .words)) (a .n) (a .m) (a .r) (now (a .scratch)) (l .0) (l .1) (c .loop-test .taken) .0)
 
 mul-scratch-2 : tie.Need-mul-scratch-2 Inv-loop μ-loop
 mul-scratch-2 c =
-    let a = c .before .before .before .before .before .before .args in
-    let l = c .before .before .loop .inv in
-    search (needs, tracing-few (now (a .words)) (a .n) (a .m) (a .r) (now (a .scratch)) (l .0) (l .1) (c .before .loop-test .taken) .1)
+    let w = c .before in
+    let v = w .before in
+    let b = v .before .before .before .before in
+    let a = b .args in
+    let l = v .loop .inv in
+    search (needs, tracing-few (now (a .words)) (a .n) (a .m) (a .r) (now (a .scratch)) (l .0) (l .1) (w .loop-test .taken) .1)
 
 slice-read-step : tie.Need-slice-read-step Inv-loop μ-loop
 slice-read-step c =
-    let a = c .before .before .before .before .before .before .args in
-    let l = c .before .before .loop .inv in
-    tracing-reads (now (a .words)) (a .n) (a .m) (a .r) (now (a .scratch)) (l .0) (l .1) (c .before .loop-test .taken)
+    let w = c .before in
+    let v = w .before in
+    let b = v .before .before .before .before in
+    let a = b .args in
+    let l = v .loop .inv in
+    tracing-reads (now (a .words)) (a .n) (a .m) (a .r) (now (a .scratch)) (l .0) (l .1) (w .loop-test .taken)
 
 slice-write-scratch : tie.Need-slice-write-scratch Inv-loop μ-loop
 slice-write-scratch c =
-    let a = c .before .before .before .before .before .before .args in
-    let l = c .before .before .loop .inv in
-    tracing-writes (now (a .words)) (a .n) (a .m) (a .r) (now (a .scratch)) (l .0) (l .1) (c .before .loop-test .taken)
+    let w = c .before in
+    let v = w .before in
+    let b = v .before .before .before .before in
+    let a = b .args in
+    let l = v .loop .inv in
+    tracing-writes (now (a .words)) (a .n) (a .m) (a .r) (now (a .scratch)) (l .0) (l .1) (w .loop-test .taken)
 
 cast-source : tie.Need-cast-source Inv-loop μ-loop
 cast-source c =
-    let a = c .before .before .before .before .before .before .args in
-    let l = c .before .before .loop .inv in
-    search (needs, tracing-small (now (a .words)) (a .n) (a .m) (a .r) (now (a .scratch)) (l .0) (l .1) (c .before .loop-test .taken))
+    let w = c .before in
+    let v = w .before in
+    let b = v .before .before .before .before in
+    let a = b .args in
+    let l = v .loop .inv in
+    search (needs, tracing-small (now (a .words)) (a .n) (a .m) (a .r) (now (a .scratch)) (l .0) (l .1) (w .loop-test .taken))
 
 source-requires : tie.Need-source-requires Inv-loop μ-loop
 source-requires c κs =
-    let a = c .before .before .before .before .before .before .args in
-    let l = c .before .before .loop .inv in
-    tracing-pair (now (a .words)) (a .n) (a .m) (a .r) (now (a .scratch)) (l .0) (l .1) (c .before .loop-test .taken)
+    let w = c .before in
+    let v = w .before in
+    let b = v .before .before .before .before in
+    let a = b .args in
+    let l = v .loop .inv in
+    tracing-pair (now (a .words)) (a .n) (a .m) (a .r) (now (a .scratch)) (l .0) (l .1) (w .loop-test .taken)
 
 add-i : tie.Need-add-i Inv-loop μ-loop
 add-i c =
-    let a = c .before .before .before .before .before .before .before .args in
-    let l = c .before .before .before .loop .inv in
-    search (needs, tracing-few (now (a .words)) (a .n) (a .m) (a .r) (now (a .scratch)) (l .0) (l .1) (c .before .before .loop-test .taken) .1)
+    let w = c .before .before in
+    let v = w .before in
+    let b = v .before .before .before .before in
+    let a = b .args in
+    let l = v .loop .inv in
+    search (needs, tracing-few (now (a .words)) (a .n) (a .m) (a .r) (now (a .scratch)) (l .0) (l .1) (w .loop-test .taken) .1)
 
 loop-again : tie.Need-loop-again Inv-loop μ-loop
 loop-again c =
-    let a = c .before .before .before .before .before .before .before .args in
-    let l = c .before .before .before .loop .inv in
-    (l .0, tracing-turn (now (a .words)) (a .n) (a .m) (a .r) (now (a .scratch)) (l .0) (l .1) (c .before .before .loop-test .taken) (c .source .ensures))
+    let w = c .before .before in
+    let v = w .before in
+    let b = v .before .before .before .before in
+    let a = b .args in
+    let l = v .loop .inv in
+    (l .0, tracing-turn (now (a .words)) (a .n) (a .m) (a .r) (now (a .scratch)) (l .0) (l .1) (w .loop-test .taken) (c .source .ensures))
 
 same-length : tie.Need-same-length Inv-loop μ-loop
 same-length c =
-    let a = c .before .before .before .before .before .args in
-    let l = c .before .loop .inv in
+    let w = c .before in
+    let b = w .before .before .before .before in
+    let a = b .args in
+    let l = w .loop .inv in
     filling-size (l .1 .filling)
 
 returns : tie.Need-returns Inv-loop μ-loop
 returns c =
-    let a = c .before .before .before .before .before .args in
-    let l = c .before .loop .inv in
+    let w = c .before in
+    let b = w .before .before .before .before in
+    let a = b .args in
+    let l = w .loop .inv in
     tracing-end (now (a .words)) (a .n) (a .m) (a .r) (now (a .scratch)) (l .0) (l .1) (omega (arith, c .loop-test .left))
 
 pub trace-spec : {M : Type 1} → statement M

@@ -8,22 +8,35 @@ use Rattle.blocking.proofs.why_not.Tie as tie
 
 show-requires : tie.Need-show-requires
 show-requires c κs =
-    let a = c .before .before .before .before .before .before .before .before .before .before .before .before .args in
-    call-allowed (now (a .words)) (a .period) (now (a .answer)) (now (a .scratch)) (sym (c .before .before .before .before .before .before .before .before .verdict .ensures) ∙ c .before .before .before .before .before .before .n .given .1)
-    (c .before .before .before .before .call-fault .ensures)
-    (c .before .before .enum-told .given .1)
+    let w = c .before .before in
+    let v = w .before .before in
+    let u = v .before .before in
+    let y = u .before .before in
+    let b = y .before .before .before .before in
+    let a = b .args in
+    call-allowed (now (a .words)) (a .period) (now (a .answer)) (now (a .scratch)) (sym (y .verdict .ensures) ∙ u .n .given .1)
+    (v .call-fault .ensures)
+    (w .enum-told .given .1)
 
 returns : tie.Need-returns
 returns c =
-    let a = c .before .before .before .before .before .before .before .args in
-    list-refused (now (a .words)) (a .period) (now (a .answer)) (now (a .scratch)) (sym (c .before .before .before .verdict .ensures) ∙ c .before .number .given .1)
+    let w = c .before in
+    let v = w .before .before in
+    let b = v .before .before .before .before in
+    let a = b .args in
+    list-refused (now (a .words)) (a .period) (now (a .answer)) (now (a .scratch)) (sym (v .verdict .ensures) ∙ w .number .given .1)
 
 returns-2 : tie.Need-returns-2
 returns-2 c =
-    let a = c .before .before .before .before .before .before .before .before .before .before .before .args in
-    call-refused (now (a .words)) (a .period) (now (a .answer)) (now (a .scratch)) (sym (c .before .before .before .before .before .before .before .verdict .ensures) ∙ c .before .before .before .before .before .n .given .1)
-    (c .before .before .before .call-fault .ensures)
-    (c .before .number2 .given .1)
+    let w = c .before in
+    let v = w .before .before in
+    let u = v .before .before in
+    let y = u .before .before in
+    let b = y .before .before .before .before in
+    let a = b .args in
+    call-refused (now (a .words)) (a .period) (now (a .answer)) (now (a .scratch)) (sym (y .verdict .ensures) ∙ u .n .given .1)
+    (v .call-fault .ensures)
+    (w .number2 .given .1)
 
 pub why-not-spec : {M : Type 1} → statement M
 why-not-spec =

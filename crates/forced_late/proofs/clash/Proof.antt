@@ -17,19 +17,27 @@ abbrev μ-loop : tie.MeasureT-loop
 μ-loop words n m scratch k₀ k = m - k
 
 returns : tie.Need-returns Inv-loop μ-loop
-returns c = inl (c .before .before .loop-test .taken, rw (c .if1 .taken) at (c .before .clashes .ensures))
+returns c =
+    let w = c .before in
+    let v = w .before in
+    inl (v .loop-test .taken, rw (c .if1 .taken) at (w .clashes .ensures))
 
 loop-again : tie.Need-loop-again Inv-loop μ-loop
 loop-again c =
-    let l = c .before .before .before .loop in
-    let a = c .before .before .before .before .before .before .args in (
-      omega (arith, c .before .before .loop-test .taken),
-      below-more (λ j. Clashes (now (a .words)) (a .n) (now (a .scratch)) j → ⊥) (l .k) (l .inv .1) (rw (c .if1 .left) at (c .before .clashes .ensures)),
+    let w = c .before in
+    let v = w .before in
+    let u = v .before in
+    let b = u .before .before .before in
+    let l = u .loop in
+    let a = b .args in (
+      omega (arith, v .loop-test .taken),
+      below-more (λ j. Clashes (now (a .words)) (a .n) (now (a .scratch)) j → ⊥) (l .k) (l .inv .1) (rw (c .if1 .left) at (w .clashes .ensures)),
     )
 
 returns-2 : tie.Need-returns-2 Inv-loop μ-loop
 returns-2 c =
-    let l = c .before .loop in
+    let w = c .before in
+    let l = w .loop in
     inr (refl, λ j h. l .inv .1 j (omega (arith, h, l .inv .0, c .loop-test .left)))
 
 pub clash-spec : {M : Type 1} → statement M

@@ -12,15 +12,18 @@ returns c = λ x. c .if1 .taken (x .breaks)
 
 returns-2 : tie.Need-returns-2
 returns-2 c =
-    let b = c .before .before .before .before .before .before .before .before in
-    let same = c .before .before .before .pair-at .ensures .same in
-    let d : depthOf (now (b .args .scratch)) (c .before .before .before .pair-at .result .launch) ≡ 0 = c .if2 .taken in
+    let w = c .before .before .before in
+    let b = w .before .before .before .before .before in
+    let same = w .pair-at .ensures .same in
+    let d : depthOf (now (b .args .scratch)) (w .pair-at .result .launch) ≡ 0 = c .if2 .taken in
     λ x. omega (arith, x .late, rw same at d)
 
 returns-3 : tie.Need-returns-3
 returns-3 c =
-    let same = c .before .before .before .pair-at .ensures .same in
-    record { breaks = c .before .before .before .before .if1 .left; late = rw (← same) (omega (arith, c .if2 .left)) }
+    let w = c .before .before .before in
+    let v = w .before in
+    let same = w .pair-at .ensures .same in
+    record { breaks = v .if1 .left; late = rw (← same) (omega (arith, c .if2 .left)) }
 
 pub clashes-spec : {M : Type 1} → statement M
 clashes-spec =

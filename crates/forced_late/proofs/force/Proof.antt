@@ -21,7 +21,8 @@ returns-3 : tie.Need-returns-3
 returns-3 c =
     let b = c .before .before .before .before .before .before .before .before .before .before in
     let a = b .args in
-    forces-marked (now (a .words)) (a .n) (now (a .scratch)) (b .pre .0) (b .pre .1) (search needs) (search needs) (search needs) (c .before .before .mark .ensures)
+    forces-marked (now (a .words)) (a .n) (now (a .scratch)) (b .pre .0) (b .pre .1) (search needs) (search needs) (search needs)
+    (c .before .before .mark .ensures)
 
 pub force-spec : {M : Type 1} → statement M
 force-spec =

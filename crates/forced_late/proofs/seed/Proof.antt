@@ -22,22 +22,29 @@ loop-holds c =
 
 seed-pair-requires : tie.Need-seed-pair-requires Inv-loop μ-loop
 seed-pair-requires c κs =
-    let b = c .before .before .before .before .before in
-    (seed-roots (now (b .args .words)) (b .args .n) (b .pre) (c .before .before .loop .inv .1), c .before .loop-test .taken)
+    let w = c .before in
+    let v = w .before in
+    let b = v .before .before .before in
+    (seed-roots (now (b .args .words)) (b .args .n) (b .pre) (v .loop .inv .1), w .loop-test .taken)
 
 loop-again : tie.Need-loop-again Inv-loop μ-loop
 loop-again c =
-    let b = c .before .before .before .before .before .before .before .before in
-    let l = c .before .before .before .before .before .loop in
+    let w = c .before .before in
+    let v = w .before .before in
+    let u = v .before in
+    let b = u .before .before .before in
+    let l = u .loop in
     let list = b .pre .lent .list in (
-      omega (arith, c .before .before .before .before .loop-test .taken),
-      seed-turn (now (b .args .words)) (b .args .n) (l .k) list (omega (arith, c .before .before .before .before .loop-test .taken, list .pairsAre)) (l .inv .1) (c .before .before .seed-pair .ensures),
+      omega (arith, v .loop-test .taken),
+      seed-turn (now (b .args .words)) (b .args .n) (l .k) list (omega (arith, v .loop-test .taken, list .pairsAre)) (l .inv .1) (w .seed-pair .ensures),
     )
 
 returns : tie.Need-returns Inv-loop μ-loop
 returns c =
-    let l = c .before .loop in
-    let e : l .k ≡ c .before .before .before .before .args .m = omega (arith, l .inv .0, c .loop-test .left) in
+    let w = c .before in
+    let b = w .before .before .before in
+    let l = w .loop in
+    let e : l .k ≡ b .args .m = omega (arith, l .inv .0, c .loop-test .left) in
     rw e at (l .inv .1)
 
 pub seed-spec : {M : Type 1} → statement M

@@ -22,23 +22,32 @@ loop-holds c =
 
 sweep-requires : tie.Need-sweep-requires Inv-loop μ-loop
 sweep-requires c κs =
-    let b = c .before .before .before .before in
-    growing-kept (now (b .args .words)) (b .args .n) (b .pre) (c .before .loop .inv)
+    let w = c .before in
+    let b = w .before .before .before in
+    growing-kept (now (b .args .words)) (b .args .n) (b .pre) (w .loop .inv)
 
 returns : tie.Need-returns Inv-loop μ-loop
 returns c =
-    let a = c .before .before .before .before .before .before .before .before .args in
-    settle-end (now (a .words)) (a .n) (c .before .before .before .before .before .loop .inv) (c .before .before .before .sweep .ensures) (not-true _ (c .if1 .taken))
+    let w = c .before .before .before in
+    let v = w .before .before in
+    let b = v .before .before .before in
+    let a = b .args in
+    settle-end (now (a .words)) (a .n) (v .loop .inv) (w .sweep .ensures) (not-true _ (c .if1 .taken))
 
 loop-less : tie.Need-loop-less Inv-loop μ-loop
 loop-less c =
-    let a = c .before .before .before .before .before .before .before .before .args in
-    settle-fewer (now (a .words)) (a .n) (c .before .before .before .sweep .ensures) (not-false _ (c .if1 .left))
+    let w = c .before .before .before in
+    let b = w .before .before .before .before .before in
+    let a = b .args in
+    settle-fewer (now (a .words)) (a .n) (w .sweep .ensures) (not-false _ (c .if1 .left))
 
 loop-again : tie.Need-loop-again Inv-loop μ-loop
 loop-again c =
-    let a = c .before .before .before .before .before .before .before .before .args in
-    grew-then (now (a .words)) (a .n) (c .before .before .before .before .before .loop .inv) (c .before .before .before .sweep .ensures .grew)
+    let w = c .before .before .before in
+    let v = w .before .before in
+    let b = v .before .before .before in
+    let a = b .args in
+    grew-then (now (a .words)) (a .n) (v .loop .inv) (w .sweep .ensures .grew)
 
 pub settle-spec : {M : Type 1} → statement M
 settle-spec =

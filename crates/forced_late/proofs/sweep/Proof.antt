@@ -23,19 +23,26 @@ loop-holds c =
 
 step-requires : tie.Need-step-requires Inv-loop μ-loop
 step-requires c κs =
-    let b = c .before .before .before .before .before in
-    (growing-kept (now (b .args .words)) (b .args .n) (b .pre) (c .before .before .loop .inv .1 .grew), c .before .loop-test .taken)
+    let w = c .before in
+    let v = w .before in
+    let b = v .before .before .before in
+    (growing-kept (now (b .args .words)) (b .args .n) (b .pre) (v .loop .inv .1 .grew), w .loop-test .taken)
 
 loop-again : tie.Need-loop-again Inv-loop μ-loop
 loop-again c =
-    let a = c .before .before .before .before .before .before .before .before .before .args in
-    let l = c .before .before .before .before .before .before .loop in
-    (omega (arith, c .before .before .before .before .before .loop-test .taken), sweep-turn (now (a .words)) (a .n) (l .k) (c .either .ensures) (l .inv .1) (c .before .before .before .step .ensures))
+    let w = c .before .before .before in
+    let v = w .before .before in
+    let u = v .before in
+    let b = u .before .before .before in
+    let a = b .args in
+    let l = u .loop in
+    (omega (arith, v .loop-test .taken), sweep-turn (now (a .words)) (a .n) (l .k) (c .either .ensures) (l .inv .1) (w .step .ensures))
 
 returns : tie.Need-returns Inv-loop μ-loop
 returns c =
-    let b = c .before .before .before .before in
-    let l = c .before .loop in
+    let w = c .before in
+    let b = w .before .before .before in
+    let l = w .loop in
     let e : l .k ≡ pairCount (now (b .args .words)) = omega (arith, l .inv .0, c .loop-test .left, b .pre .lent .list .pairsAre) in
     rw e at (l .inv .1)
 

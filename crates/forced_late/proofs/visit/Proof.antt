@@ -20,13 +20,18 @@ loop-holds c =
 
 cross-requires : tie.Need-cross-requires Inv-loop μ-loop
 cross-requires c κs =
-    let b = c .before .before .before .before .before .before .before .before in
-    (growing-kept (now (b .args .words)) (b .args .n) (b .pre) (c .before .before .before .loop .inv), omega (arith, c .before .if1 .left))
+    let w = c .before in
+    let v = w .before .before in
+    let b = v .before .before .before .before .before in
+    (growing-kept (now (b .args .words)) (b .args .n) (b .pre) (v .loop .inv), omega (arith, w .if1 .left))
 
 loop-again : tie.Need-loop-again Inv-loop μ-loop
 loop-again c =
-    let a = c .before .before .before .before .before .before .before .before .before .before .before .before .before .before .args in
-    grew-then (now (a .words)) (a .n) (c .before .before .before .before .before .before .before .before .before .loop .inv) (c .before .before .before .before .before .cross .ensures)
+    let w = c .before .before .before .before .before in
+    let v = w .before .before .before .before in
+    let b = v .before .before .before .before .before in
+    let a = b .args in
+    grew-then (now (a .words)) (a .n) (v .loop .inv) (w .cross .ensures)
 
 pub visit-spec : {M : Type 1} → statement M
 visit-spec =

@@ -21,14 +21,19 @@ loop-holds c =
 
 visit-requires : tie.Need-visit-requires Inv-loop μ-loop
 visit-requires c κs =
-    let b = c .before .before .before .before .before .before .before .before .before .before .before .before .before .before .before .before .before .before .before .before in
-    growing-kept (now (b .args .words)) (b .args .n) (b .pre) (c .before .before .before .before .before .before .before .before .loop .inv .1)
+    let w = c .before .before .before .before .before .before .before .before in
+    let b = w .before .before .before .before .before .before .before .before .before .before .before .before in
+    growing-kept (now (b .args .words)) (b .args .n) (b .pre) (w .loop .inv .1)
 
 loop-again : tie.Need-loop-again Inv-loop μ-loop
 loop-again c =
-    let a = c .before .before .before .before .before .before .before .before .before .before .before .before .before .before .before .before .before .before .before .before .before .before .before .args in
-    let l = c .before .before .before .before .before .before .before .before .before .before .before .loop in
-    (omega (arith, c .before .before .before .before .before .before .before .before .before .before .loop-test .taken), grew-then (now (a .words)) (a .n) (l .inv .1) (c .before .before .visit .ensures))
+    let w = c .before .before in
+    let v = w .before .before .before .before .before .before .before .before in
+    let u = v .before in
+    let b = u .before .before .before .before .before .before .before .before .before .before .before .before in
+    let a = b .args in
+    let l = u .loop in
+    (omega (arith, v .loop-test .taken), grew-then (now (a .words)) (a .n) (l .inv .1) (w .visit .ensures))
 
 pub walk-spec : {M : Type 1} → statement M
 walk-spec =

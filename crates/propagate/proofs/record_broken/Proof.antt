@@ -23,22 +23,37 @@ loop-holds : tie.Need-loop-holds Inv-loop μ-loop
 loop-holds c = filling-start (filled-none _)
 
 pair-at-requires : tie.Need-pair-at-requires Inv-loop μ-loop
-pair-at-requires c κs = pair-in _ (c .before .before .before .before .pre .0) (c .loop-test .taken)
+pair-at-requires c κs =
+    let b = c .before .before .before .before in
+    pair-in _ (b .pre .0) (c .loop-test .taken)
 
 record-pair-requires : tie.Need-record-pair-requires Inv-loop μ-loop
-record-pair-requires c κs = omega (arith, filling-size (c .before .before .before .loop .inv), c .before .before .loop-test .taken, c .before .before .before .before .before .before .pre .1)
+record-pair-requires c κs =
+    let w = c .before .before in
+    let v = w .before in
+    let b = v .before .before .before in
+    omega (arith, filling-size (v .loop .inv), w .loop-test .taken, b .pre .1)
 
 loop-again : tie.Need-loop-again Inv-loop μ-loop
 loop-again c =
-    let l = c .before .before .before .before .before .before .loop in
-    filling-turn perPair (λ k. refl) (omega (arith, c .before .before .before .before .before .before .before .before .before .pre .1)) (l .inv) (c .before .before .before .before .before .loop-test .taken) (perPair * l .k) (omega arith)
-    (rw (c .before .before .before .before .pair-at .ensures .same) at (c .before .before .record-pair .ensures))
+    let w = c .before .before in
+    let v = w .before .before in
+    let u = v .before in
+    let y = u .before in
+    let b = y .before .before .before in
+    let l = y .loop in
+    filling-turn perPair (λ k. refl) (omega (arith, b .pre .1)) (l .inv) (u .loop-test .taken) (perPair * l .k) (omega arith)
+    (rw (v .pair-at .ensures .same) at (w .record-pair .ensures))
 
 same-length : tie.Need-same-length Inv-loop μ-loop
-same-length c = filling-size (c .before .loop .inv)
+same-length c =
+    let w = c .before in
+    filling-size (w .loop .inv)
 
 returns : tie.Need-returns Inv-loop μ-loop
-returns c = filling-end (c .before .loop .inv) (omega (arith, c .loop-test .left))
+returns c =
+    let w = c .before in
+    filling-end (w .loop .inv) (omega (arith, c .loop-test .left))
 
 pub record-broken-spec : {M : Type 1} → statement M
 record-broken-spec =

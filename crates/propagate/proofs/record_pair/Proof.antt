@@ -19,8 +19,12 @@ slice-write-flags-4 c = simp length-set (omega arith)
 
 returns : tie.Need-returns
 returns c =
-    let a = c .before .before .before .before .before .args in
-    rw (c .broken-flag4 .ensures, c .before .broken-flag3 .ensures, c .before .before .broken-flag2 .ensures, c .before .before .before .broken-flag .ensures, add-one, add-two, add-three)
+    let w = c .before in
+    let v = w .before in
+    let u = v .before in
+    let b = u .before .before in
+    let a = b .args in
+    rw (c .broken-flag4 .ensures, w .broken-flag3 .ensures, v .broken-flag2 .ensures, u .broken-flag .ensures, add-one, add-two, add-three)
     (sets-put (flagsOf (a .period) (a .offset) (a .pair)) (a .flags .now) (a .at) (omega arith))
 
 pub record-pair-spec : {M : Type 1} → statement M
