@@ -11,13 +11,13 @@ use Rattle.buffers.specs.Over.{over}
 use Rattle.buffers.proofs.FillLaws.{over-more}
 use Rattle.list_format.specs.Lists.{pairAt, PairIn}
 use Rattle.list_format.proofs.ListLaws.{pair-in, few-registers}
-use Rattle.forced_late.specs.Forest.{earlyEarly, lateEarly, lateLate, depthOf, stepTo, Root}
+use Rattle.forced_late.specs.Forest.{earlyEarly, lateEarly, depthOf, stepTo, Root}
 use Rattle.forced_late.proofs.GrowLaws.{depth-few}
 use Rattle.blocking.specs.declared.Reason.the-variants.{Blocked}
-use Rattle.blocking.specs.Paths.{heightOf, rootOf, firstChain, chainsOf, Late, Traced, pathIn, chainIn, Clashing}
+use Rattle.blocking.specs.Paths.{heightOf, rootOf, firstChain, chainsOf, Late, Traced, chainIn, Clashing}
 use Rattle.blocking.specs.Blocking.{ChainsIn}
 use Rattle.blocking.proofs.PathLaws.{up-root}
-use Rattle.blocking.proofs.ChainsLaws.{path-size, launch-late, root-in, height-one}
+use Rattle.blocking.proofs.ChainsLaws.{launch-late, root-in, height-one}
 use Rattle.blocking.proofs.StoreLaws.{traced-size, traced-rest, traced-front, traced-up, traced-down}
 
 module _ {ws : List ℕ} {n m k : ℕ} {answer S : List ℕ} (x : Clashing ws n m k answer S) where
@@ -96,21 +96,6 @@ module _ {ws : List ℕ} {n m k : ℕ} {answer S : List ℕ} (x : Clashing ws n 
         same-second : chainIn ws n k b count S′ ≡ chainsOf ws n S k .second
         same-second =
             rw (ec, traced-down ws n m (pairAt ws k .launch) S late t, traced-up ws n m (pairAt ws k .launch) S late t, t .root)
-
-        by-few : (d : Bool) (down up : List ℕ) → length down ≡ count → length up ≡ count
-            → length (down ++ ((perPair * k + lateLate) ∷ cond d [] ((perPair * k + lateEarly) ∷ up))) ≤ 2 * count + 2
-        by-few true down up ed eu = omega (arith, length-append down ((perPair * k + lateLate) ∷ []), ed)
-        by-few false down up ed eu = omega (arith, length-append down ((perPair * k + lateLate) ∷ (perPair * k + lateEarly) ∷ up), ed, eu)
-
-        pub second-short : second ≤ 2 * maxRegisters + 2
-        second-short =
-            omega (
-              arith,
-              es,
-              by-few (eqb (pairAt ws k .capture) b) (pathIn n count true S′) (pathIn n count false S′) (path-size _ count) (path-size _ count),
-              height-short,
-              few,
-            )
 
         pub chains-in : ChainsIn ws n k answer a2 S S′ (Blocked b first second)
         chains-in = record {

@@ -75,7 +75,7 @@ fn put_step(answer: &mut [u32], at: usize, step: usize)
 }
 
 // The chain of a root from early to late, by the step that made it one. Its length is returned.
-fn put_first(words: &[u32], step: usize, answer: &mut [u32]) -> usize
+fn put_first(words: &[u32], step: usize, answer: &mut [u32]) -> u32
     requires { ⌜ PairIn (now words) (step / perPair) × (step % perPair ≡ earlyEarly) × (2 ≤ length (now answer)) ⌝ }
     ensures size { λ r. ⌜ r ≡ length (firstChain (now (words .entry)) step) ⌝ }
     ensures stored { λ _. ⌜ now (answer .exit) ≡ over (firstChain (now (words .entry)) step) (now (answer .entry)) ⌝ }
@@ -112,7 +112,7 @@ fn put_second(
     scratch: &[u32],
     at: usize,
     answer: &mut [u32],
-) -> usize
+) -> u32
     requires { ⌜ PairIn (now words) k × (count ≤ maxRegisters) × (2 * n + count ≤ length (now scratch))
         × (at + 2 * count + 2 ≤ length (now answer)) ⌝ }
     ensures size { λ r. ⌜ r ≡ length (chainIn (now (words .entry)) n k b count (now (scratch .entry))) ⌝ }
@@ -123,11 +123,11 @@ fn put_second(
     put_path(n, count, true, scratch, at, answer);
     put_step(answer, at + count, PER_PAIR * k + LATE_LATE);
     if p.capture as usize == b {
-        return count + 1;
+        return (count + 1) as u32;
     }
     put_step(answer, at + count + 1, PER_PAIR * k + LATE_EARLY);
     put_path(n, count, false, scratch, at + count + 2, answer);
-    2 * count + 2
+    (2 * count + 2) as u32
 }
 
 // The two chains that pair k gives, whose launch is late and has to be early.
@@ -147,8 +147,8 @@ fn put_chains(
     let b = trace(words, n, m, p.launch as usize, scratch);
     let step = scratch[n + b] as usize;
     let first = put_first(words, step, answer);
-    let second = put_second(words, n, k, b, count, scratch, first, answer);
-    Reason::Blocked(b as u32, first as u32, second as u32)
+    let second = put_second(words, n, k, b, count, scratch, first as usize, answer);
+    Reason::Blocked(b as u32, first, second)
 }
 
 // The broken choices at the offset common less period, or 0, and the registers that they force late.

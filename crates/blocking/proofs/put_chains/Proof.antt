@@ -5,7 +5,7 @@ use Prim.Native.Nat.{_+_, _≤_}
 use Rattle.timing.specs.Limits.{maxRegisters}
 use Rattle.forced_late.specs.Forest.{depthOf}
 use Rattle.blocking.proofs.ChainsLaws.{launch-late}
-use Rattle.blocking.proofs.PutLaws.{launch-few, root-few, root-reads, first-asks, step-small, first-short, second-asks, second-short, chains-in}
+use Rattle.blocking.proofs.PutLaws.{launch-few, root-few, root-reads, first-asks, step-small, first-short, second-asks, chains-in}
 use borrow.Author.Needs.{needs}
 use Rattle.blocking.proofs.put_chains.Statement.{statement}
 use Rattle.blocking.proofs.put_chains.Tie as tie
@@ -66,6 +66,14 @@ put-first-requires c κs =
     let b = v .before .before .before .before in
     first-asks (b .pre) (rw (v .pair-at .ensures .same) at (w .trace .ensures))
 
+cast-put-second : tie.Need-cast-put-second
+cast-put-second c =
+    let w = c .before .before .before in
+    let v = w .before .before .before .before .before in
+    let u = v .before .before .before .before .before in
+    let b = u .before .before .before .before in
+    search (needs, first-short (b .pre) (rw (u .pair-at .ensures .same) at (v .trace .ensures)) (w .put-first .ensures .0))
+
 put-second-requires : tie.Need-put-second-requires
 put-second-requires c κs =
     let w = c .before .before .before .before in
@@ -84,32 +92,6 @@ cast-t16 c =
     let b = v .before .before .before .before in
     search (needs, root-few (b .pre) (rw (v .pair-at .ensures .same) at (w .trace .ensures)))
 
-cast-t27 : tie.Need-cast-t27
-cast-t27 c =
-    let w = c .before .before in
-    let v = w .before .before .before .before .before in
-    let u = v .before .before .before .before .before in
-    let y = u .before .before .before .before .before in
-    let b = y .before .before .before .before in
-    let same = y .pair-at .ensures .same in
-    let t = rw same at (u .trace .ensures) in
-    let first = v .put-first .ensures in
-    let second = w .put-second .ensures in
-    search (needs, first-short (b .pre) t (first .0), second-short (b .pre) t (rw same refl) (first .0) (first .1) (second .0) (second .1))
-
-cast-t28 : tie.Need-cast-t28
-cast-t28 c =
-    let w = c .before .before in
-    let v = w .before .before .before .before .before in
-    let u = v .before .before .before .before .before in
-    let y = u .before .before .before .before .before in
-    let b = y .before .before .before .before in
-    let same = y .pair-at .ensures .same in
-    let t = rw same at (u .trace .ensures) in
-    let first = v .put-first .ensures in
-    let second = w .put-second .ensures in
-    search (needs, first-short (b .pre) t (first .0), second-short (b .pre) t (rw same refl) (first .0) (first .1) (second .0) (second .1))
-
 returns : tie.Need-returns
 returns c =
     let w = c .before .before in
@@ -125,5 +107,5 @@ pub put-chains-spec : {M : Type 1} → statement M
 put-chains-spec =
     tie.close
     (tie.spec (λ c κs. search needs) (λ c. search needs) (λ c. search needs) (λ c. search needs) cast-count-2 sub-count (λ c. search needs)
-    trace-requires add-step mul-step slice-read-step cast-step put-first-requires put-second-requires cast-t16 cast-t27 cast-t28
+    trace-requires add-step mul-step slice-read-step cast-step put-first-requires cast-put-second put-second-requires cast-t16
     (λ c. search needs) (λ c. search needs) returns)

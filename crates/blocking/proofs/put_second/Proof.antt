@@ -17,6 +17,11 @@ returns c =
     second-one (now (a .words)) (a .k) (a .b) _ _ (a .count) (a .at) (now (a .answer)) (path-size _ (a .count)) (path-size _ (a .count))
     (omega (arith, b .pre .3)) (v .put-path .ensures) (w .put-step .ensures) (rw (u .pair-at .ensures .same) at (c .if1 .taken))
 
+cast-result : tie.Need-cast-result
+cast-result c =
+    let b = c .before .before .before .before .before .before .before .before .before .before .before .before .before .before in
+    search (needs, b .pre .1)
+
 add-put-path : tie.Need-add-put-path
 add-put-path c =
     let w = c .before .before .before .before .before .before .before .before in
@@ -41,6 +46,12 @@ add-result-2 c =
     let b = w .before .before .before .before .before .before .before .before .before .before in
     search (needs, b .pre .1)
 
+cast-result-2 : tie.Need-cast-result-2
+cast-result-2 c =
+    let w = c .before .before .before .before .before .before .before .before .before .before .before .before in
+    let b = w .before .before .before .before .before .before .before .before .before .before in
+    search (needs, b .pre .1)
+
 returns-2 : tie.Need-returns-2
 returns-2 c =
     let w = c .before .before in
@@ -59,6 +70,6 @@ pub put-second-spec : {M : Type 1} → statement M
 put-second-spec =
     tie.close
     (tie.spec (λ c κs. search needs) (λ c κs. search needs) (λ c. search needs) (λ c. search needs) (λ c. search needs)
-    (λ c κs. search needs) (λ c. search needs) (λ c. search needs) (λ c. search needs) returns (λ c. search needs) (λ c. search needs)
-    (λ c. search needs) (λ c. search needs) (λ c κs. search needs) add-put-path add-put-path-2 (λ c κs. search needs) mul-result
-    add-result-2 (λ c. search needs) returns-2)
+    (λ c κs. search needs) (λ c. search needs) (λ c. search needs) cast-result (λ c. search needs) returns (λ c. search needs)
+    (λ c. search needs) (λ c. search needs) (λ c. search needs) (λ c κs. search needs) add-put-path add-put-path-2 (λ c κs. search needs)
+    mul-result add-result-2 cast-result-2 (λ c. search needs) returns-2)
