@@ -1,19 +1,20 @@
 // Whether a run of words is a delay list, the pairs of an accepted one, and the reader that walks them.
 // The contracts cite `list_format`: where a pair stands, what it is, and every check in its order.
 ghost use mathlib.Core.Path.{_≡_};
-ghost use mathlib.Core.Bool.{true, _&&_};
+ghost use mathlib.Core.Bool.{true, false, _&&_};
 ghost use mathlib.Core.List.{[], _∷_};
 ghost use Prim.Native.Nat.{_+_, _-_, _*_, _^_, _<_, _≤_};
 ghost use lib.Dec.{ltb};
 ghost use lib.ListN.{length};
-ghost use Rattle.words.specs.Word.{countBits, registerBits, holdOf, setupOf};
-ghost use Rattle.timing.specs.Limits.{maxPeriod};
+ghost use Rattle.words.specs.Word.{countBits, registerBits, launchOf, captureOf, holdOf, setupOf};
+ghost use Rattle.timing.specs.Limits.{maxRegisters, maxPeriod};
 ghost use Rattle.refusals.specs.Checks.{orCheck, firstFault, faultAfter, eachCheck};
 ghost use Rattle.refusals.specs.declared.Fault.the-variants.{None};
 ghost use Rattle.list_format.specs.Lists.{word, registers, pairCount, needWordsBy, needWords, holdAt, setupAt, needsOf, placeBy, pairPlace};
-ghost use Rattle.list_format.specs.Lists.{placeOf, stepOf, pairOf, counting, countingNeeds, noNeeds};
-ghost use Rattle.list_format.specs.Lists.{IsAccepted, PairIn, IsWritten, IsPair, verdict as verdictOf};
-ghost use Rattle.list_format.specs.Lists.{headChecks, needChecks, blockChecks, kindChecks, valueChecks, pairChecks, endChecks, pairsChecks, bodyChecks};
+ghost use Rattle.list_format.specs.Lists.{placeOf, stepOf, pairOf, writtenAt, counting, countingNeeds, noNeeds};
+ghost use Rattle.list_format.specs.Lists.{IsAccepted, PairIn, IsWritten, IsPair, verdictBy, verdict as verdictOf};
+ghost use Rattle.list_format.specs.Lists.{headChecks, needChecks, blockChecks, kindChecks, valueChecks, ownChecks, orderCheck, pairChecks};
+ghost use Rattle.list_format.specs.Lists.{endChecks, pairsChecks, bodyChecks};
 ghost use Rattle.list_format.specs.Walk.{nextAt, placeAfter};
 use list_format::Next;
 use list_format::Verdict;
@@ -228,11 +229,11 @@ fn hold_fault(words: &[u32], needs: usize, found: Fault, p: Pair, at: usize) -> 
     Fault::None.or(p.least < hold_at(words, needs, p.capture), 19, at)
 }
 
-// All checks of pair k. Where there are words of needs, there are n of them.
-fn pair_fault(words: &[u32], needs: usize, n: u32, k: usize) -> Fault
+// All checks of pair k but for its order. Where there are words of needs, there are n of them.
+fn own_fault(words: &[u32], needs: usize, n: u32, k: usize) -> Fault
     requires { ⌜ (needs ≡ needWords (now words)) × ((k < 2 ^ countBits) × ((pairPlace (now words) k + 3 ≤ length (now words))
         × (n ≡ registers (now words)))) ⌝ }
-    ensures { λ r. ⌜ r ≡ firstFault (pairChecks (now (words .entry)) n k) ⌝ }
+    ensures { λ r. ⌜ r ≡ firstFault (ownChecks (now (words .entry)) n k) ⌝ }
 {
     let at = pair_place(needs, k);
     let pair = words[at];
@@ -245,6 +246,51 @@ fn pair_fault(words: &[u32], needs: usize, n: u32, k: usize) -> Fault
         return ranged;
     }
     hold_fault(words, n as usize, ranged, p, at + 1)
+}
+
+// What pairs are ordered by: the launch register, then the capture register.
+pub fn key(launch: u32, capture: u32) -> u64
+    ensures { λ r. ⌜ r ≡ launch * maxRegisters + capture ⌝ }
+{
+    (launch as u64) * (timing::MAX_REGISTERS as u64) + (capture as u64)
+}
+
+// The same, of a pair word.
+fn key_of(pair: u32) -> u64
+    ensures { λ r. ⌜ r ≡ launchOf pair * maxRegisters + captureOf pair ⌝ }
+{
+    key(words::launch(pair), words::capture(pair))
+}
+
+// 20: pair k is not above the one before it, where the order is asked for.
+fn order_fault(words: &[u32], needs: usize, asked: bool, k: usize) -> Fault
+    requires { ⌜ (needs ≡ needWords (now words)) × ((k < 2 ^ countBits) × (pairPlace (now words) k + 3 ≤ length (now words))) ⌝ }
+    ensures { λ r. ⌜
+        r ≡ firstFault (orderCheck asked (writtenAt (now (words .entry))) k (pairPlace (now (words .entry)) k) ∷ [])
+        ⌝ }
+{
+    if !asked {
+        return Fault::None;
+    }
+    if k == 0 {
+        return Fault::None;
+    }
+    let at = pair_place(needs, k);
+    let last = key_of(words[at - 3]);
+    Fault::None.or(key_of(words[at]) <= last, 20, at)
+}
+
+// All checks of pair k.
+fn pair_fault(words: &[u32], needs: usize, asked: bool, n: u32, k: usize) -> Fault
+    requires { ⌜ (needs ≡ needWords (now words)) × ((k < 2 ^ countBits) × ((pairPlace (now words) k + 3 ≤ length (now words))
+        × (n ≡ registers (now words)))) ⌝ }
+    ensures { λ r. ⌜ r ≡ firstFault (pairChecks asked (now (words .entry)) n k) ⌝ }
+{
+    let own = own_fault(words, needs, n, k);
+    if let Fault::At(number, place) = own {
+        return Fault::At(number, place);
+    }
+    order_fault(words, needs, asked, k)
 }
 
 // 13 and 17: the end word, which stands at `at`.
@@ -260,14 +306,14 @@ fn end_fault(words: &[u32], at: usize) -> Fault
 }
 
 // The pairs, one by one, then the end.
-fn pairs_fault(words: &[u32], needs: usize, n: u32, m: usize) -> Fault
+fn pairs_fault(words: &[u32], needs: usize, asked: bool, n: u32, m: usize) -> Fault
     requires { ⌜ (needs ≡ needWords (now words)) × ((m < 2 ^ countBits) × ((length (now words) ≡ pairPlace (now words) m + 1)
         × (n ≡ registers (now words)))) ⌝ }
-    ensures { λ r. ⌜ r ≡ firstFault (pairsChecks (now (words .entry)) n m) ⌝ }
+    ensures { λ r. ⌜ r ≡ firstFault (pairsChecks asked (now (words .entry)) n m) ⌝ }
 {
     let mut k = 0;
     while k < m {
-        let found = pair_fault(words, needs, n, k);
+        let found = pair_fault(words, needs, asked, n, k);
         if let Fault::At(number, place) = found {
             return Fault::At(number, place);
         }
@@ -277,13 +323,13 @@ fn pairs_fault(words: &[u32], needs: usize, n: u32, m: usize) -> Fault
 }
 
 // The checks of all that stands after the head.
-fn body_fault(words: &[u32], needs: usize, n: u32, m: usize) -> Fault
+fn body_fault(words: &[u32], needs: usize, asked: bool, n: u32, m: usize) -> Fault
     requires { ⌜ (needs ≡ needWords (now words)) × ((m < 2 ^ countBits) × ((length (now words) ≡ pairPlace (now words) m + 1)
         × (n ≡ registers (now words)))) ⌝ }
-    ensures { λ r. ⌜ r ≡ firstFault (bodyChecks (now (words .entry)) n m) ⌝ }
+    ensures { λ r. ⌜ r ≡ firstFault (bodyChecks asked (now (words .entry)) n m) ⌝ }
 {
     let block = block_fault(words, needs);
-    let rest = pairs_fault(words, needs, n, m);
+    let rest = pairs_fault(words, needs, asked, n, m);
     block.then(rest)
 }
 
@@ -297,9 +343,9 @@ fn word_at(words: &[u32], i: usize) -> u32
     0
 }
 
-// The counts of registers and pairs, or the first refusal with its place.
-pub fn verdict(words: &[u32]) -> Verdict
-    ensures { λ r. ⌜ r ≡ verdictOf (now (words .entry)) ⌝ }
+// The counts of registers and pairs, or the first refusal with its place, with the order asked for or not.
+fn verdict_by(words: &[u32], asked: bool) -> Verdict
+    ensures { λ r. ⌜ r ≡ verdictBy asked (now (words .entry)) ⌝ }
 {
     let head = word_at(words, 0);
     let second = word_at(words, 1);
@@ -308,10 +354,24 @@ pub fn verdict(words: &[u32]) -> Verdict
     }
     let n = words::head_registers(head);
     let m = words::head_pairs(head);
-    match body_fault(words, need_words(head, second), n, m as usize) {
+    match body_fault(words, need_words(head, second), asked, n, m as usize) {
         Fault::At(number, place) => Verdict::Refused(number, place),
         Fault::None => Verdict::Accepted(n, m),
     }
+}
+
+// The counts of registers and pairs, or the first refusal with its place.
+pub fn verdict(words: &[u32]) -> Verdict
+    ensures { λ r. ⌜ r ≡ verdictOf (now (words .entry)) ⌝ }
+{
+    verdict_by(words, true)
+}
+
+// The same for a stored list in any order, which may name a pair more than once: 20 is not asked.
+pub fn stored_verdict(words: &[u32]) -> Verdict
+    ensures { λ r. ⌜ r ≡ verdictBy false (now (words .entry)) ⌝ }
+{
+    verdict_by(words, false)
 }
 
 // How many words of needs a list has.

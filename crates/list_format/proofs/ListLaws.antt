@@ -1,10 +1,10 @@
 -- What it means for a list to be accepted, fact by fact, and what follows for its pairs.
 use Prim.Native.Nat.{ℕ, zero, suc, _+_, _-_, _%_, _^_, _<_, _≤_}
 use mathlib.Core.Bool.{Bool, true, false, not, cond, _&&_}
-use mathlib.Core.List.{List, _++_}
+use mathlib.Core.List.{List, [], _∷_, _++_}
 use mathlib.Core.Path.{_≡_, refl, _∙_, ap}
 use native.Mathlib.Omega.{arith}
-use lib.Dec.{ltb, eqb}
+use lib.Dec.{ltb, leb, eqb}
 use lib.ListN.{length, take}
 use borrow.Author.Tests.{ltb-true, ltb-false, le-ltb, leb-false, lt-leb, eqb-true, eqb-false, eq-eqb, ne-eqb, not-false}
 use Rattle.timing.specs.declared.Pair.{Pair}
@@ -12,6 +12,8 @@ use Rattle.timing.specs.Rules.{Each, InRange}
 use Rattle.timing.specs.Limits.{maxRegisters, maxPairs, maxDelay, maxPeriod}
 use Rattle.words.specs.Word.{kindHead, kindPair, kindLeast, kindGreatest, kindNeeds, kindEnd, kindOf, payloadOf, headSpare, pairSpare, checksum}
 use Rattle.words.specs.Word.{holdOf, setupOf, needsSpare}
+use Rattle.ordering.specs.Order.{keyOf, notAbove, Ascends}
+use Rattle.ordering.proofs.OrderLaws.{above-none, none-above, above-first, above-later}
 use Rattle.refusals.specs.Checks.{Check, orCheck, faultAfter, firstFault, eachCheck}
 use Rattle.refusals.specs.Reply.{numbers, Outcome, replyOf, answered}
 use Rattle.refusals.specs.declared.Fault.{Fault}
@@ -20,36 +22,42 @@ use Rattle.refusals.proofs.CheckLaws.{or-passed, stop-first, pass-first, both-p
 use Rattle.refusals.proofs.ReplyLaws.{numbers-none}
 use Rattle.list_format.specs.Lists.{word, registers, pairCount, needWords, holdAt, setupAt, needsOf, pairPlace, writtenAt}
 use Rattle.list_format.specs.Lists.{countingNeeds, pairAt, pairsFrom, pairs, placeOf, stepOf, noNeeds}
-use Rattle.list_format.specs.Lists.{differ, headChecks, needChecks, blockChecks, kindChecks, valueChecks, pairChecks, endChecks, pairsChecks}
-use Rattle.list_format.specs.Lists.{bodyChecks, listChecks}
-use Rattle.list_format.specs.Lists.{judged, verdict, NeedsIn, ValuesIn, WrittenIn, IsAccepted, AcceptedList}
+use Rattle.list_format.specs.Lists.{differ, headChecks, needChecks, blockChecks, kindChecks, valueChecks, ownChecks, orderCheck, pairChecks, endChecks}
+use Rattle.list_format.specs.Lists.{pairsChecks, bodyChecks, checksBy, listChecks}
+use Rattle.list_format.specs.Lists.{judged, verdictBy, verdict, NeedsIn, ValuesIn, WrittenIn, IsAccepted, AcceptedList}
 use Rattle.list_format.specs.Lists.{firstNeeds, IsUsable, UsableList, PairIn, IsWritten, IsPair}
 use Rattle.list_format.proofs.NeedsLaws.{needs-present, needs-absent}
 use Rattle.list_format.specs.declared.Verdict.the-variants.{Accepted, Refused}
 
 -- ---- the verdict and the first check that fails
 
-module _ (ws : List ℕ) where
-  pub fault→refused : {number place : ℕ} → firstFault (listChecks ws) ≡ At number place → verdict ws ≡ Refused number place
-  unfolding judged verdict
-  fault→refused e = ap (judged ws) e
+-- with the order asked for or not
+module _ (asked : Bool) (ws : List ℕ) where
+  fault-refused : {number place : ℕ} → firstFault (checksBy asked ws) ≡ At number place → verdictBy asked ws ≡ Refused number place
+  unfolding judged verdictBy
+  fault-refused e = ap (judged ws) e
 
-  pub none→accepted : firstFault (listChecks ws) ≡ None → IsAccepted ws
-  unfolding judged verdict
-  none→accepted e = ap (judged ws) e
+  none-accepted : firstFault (checksBy asked ws) ≡ None → verdictBy asked ws ≡ Accepted (registers ws) (pairCount ws)
+  unfolding judged verdictBy
+  none-accepted e = ap (judged ws) e
 
   -- the head decides, or else what stands after it
   pub head-refuses : {number place : ℕ} → firstFault (headChecks (word ws 0) (word ws 1) (length ws)) ≡ At number place
-      → verdict ws ≡ Refused number place
-  head-refuses e = fault→refused (stop-first (headChecks (word ws 0) (word ws 1) (length ws)) (bodyChecks ws (registers ws) (pairCount ws)) e)
+      → verdictBy asked ws ≡ Refused number place
+  head-refuses e =
+      fault-refused (stop-first (headChecks (word ws 0) (word ws 1) (length ws)) (bodyChecks asked ws (registers ws) (pairCount ws)) e)
 
   module _ (head : firstFault (headChecks (word ws 0) (word ws 1) (length ws)) ≡ None) where
-    pub body-refuses : {number place : ℕ} → firstFault (bodyChecks ws (registers ws) (pairCount ws)) ≡ At number place
-        → verdict ws ≡ Refused number place
-    body-refuses e = fault→refused (pass-first (headChecks (word ws 0) (word ws 1) (length ws)) (bodyChecks ws (registers ws) (pairCount ws)) head ∙ e)
+    rest-decides : firstFault (checksBy asked ws) ≡ firstFault (bodyChecks asked ws (registers ws) (pairCount ws))
+    rest-decides = pass-first (headChecks (word ws 0) (word ws 1) (length ws)) (bodyChecks asked ws (registers ws) (pairCount ws)) head
 
-    pub body-accepts : firstFault (bodyChecks ws (registers ws) (pairCount ws)) ≡ None → IsAccepted ws
-    body-accepts e = none→accepted (pass-both (headChecks (word ws 0) (word ws 1) (length ws)) (bodyChecks ws (registers ws) (pairCount ws)) head e)
+    pub body-refuses : {number place : ℕ} → firstFault (bodyChecks asked ws (registers ws) (pairCount ws)) ≡ At number place
+        → verdictBy asked ws ≡ Refused number place
+    body-refuses e = fault-refused (rest-decides ∙ e)
+
+    pub body-accepts : firstFault (bodyChecks asked ws (registers ws) (pairCount ws)) ≡ None
+        → verdictBy asked ws ≡ Accepted (registers ws) (pairCount ws)
+    body-accepts e = none-accepted (rest-decides ∙ e)
 
   judged-refused : (f : Fault) {number place : ℕ} → judged ws f ≡ Refused number place → f ≡ At number place
   unfolding judged
@@ -58,25 +66,43 @@ module _ (ws : List ℕ) where
       absurd (omega arith)
   judged-refused (At number place) e = cc
 
-  pub refused→fault : {number place : ℕ} → verdict ws ≡ Refused number place → firstFault (listChecks ws) ≡ At number place
-  unfolding verdict
-  refused→fault e = judged-refused (firstFault (listChecks ws)) e
+  pub refused-fault : {number place : ℕ} → verdictBy asked ws ≡ Refused number place → firstFault (checksBy asked ws) ≡ At number place
+  unfolding verdictBy
+  refused-fault e = judged-refused (firstFault (checksBy asked ws)) e
 
-  -- an accepted list passes every check, and its counts are those of its head
+  -- a list that is not refused passes every check, and its counts are those of its head
+  pub record PassedAs (n m : ℕ) : Type 0 where
+    pub none : firstFault (checksBy asked ws) ≡ None
+    pub registersAre : n ≡ registers ws
+    pub pairsAre : m ≡ pairCount ws
+
+  judged-passed : (f : Fault) {n m : ℕ} → firstFault (checksBy asked ws) ≡ f → judged ws f ≡ Accepted n m → PassedAs n m
+  unfolding judged
+  judged-passed None e a = record { none = e; registersAre = cc; pairsAre = cc }
+  judged-passed (At number place) e a =
+      let z : _≡_ {A = ℕ} 0 1 = cc in
+      absurd (omega arith)
+
+  pub accepted-passed : {n m : ℕ} → verdictBy asked ws ≡ Accepted n m → PassedAs n m
+  unfolding verdictBy
+  accepted-passed a = judged-passed (firstFault (checksBy asked ws)) refl a
+
+-- with the order
+module _ (ws : List ℕ) where
+  pub none→accepted : firstFault (listChecks ws) ≡ None → IsAccepted ws
+  none→accepted e = none-accepted true ws e
+
+  pub refused→fault : {number place : ℕ} → verdict ws ≡ Refused number place → firstFault (listChecks ws) ≡ At number place
+  refused→fault e = refused-fault true ws e
+
   pub record AcceptedAs (n m : ℕ) : Type 0 where
     pub none : firstFault (listChecks ws) ≡ None
     pub list : AcceptedList ws n m
 
-  judged-accepted : (f : Fault) {n m : ℕ} → firstFault (listChecks ws) ≡ f → judged ws f ≡ Accepted n m → AcceptedAs n m
-  unfolding judged
-  judged-accepted None e a = record { none = e; list = record { accepted = none→accepted e; registersAre = cc; pairsAre = cc } }
-  judged-accepted (At number place) e a =
-      let z : _≡_ {A = ℕ} 0 1 = cc in
-      absurd (omega arith)
-
   pub accepted→none : {n m : ℕ} → verdict ws ≡ Accepted n m → AcceptedAs n m
-  unfolding verdict
-  accepted→none a = judged-accepted (firstFault (listChecks ws)) refl a
+  accepted→none a =
+      let p = accepted-passed true ws a in
+      record { none = p .none; list = record { accepted = none→accepted (p .none); registersAre = p .registersAre; pairsAre = p .pairsAre } }
 
 -- a list stays usable with a count of registers that is the same number
 pub still-usable : {ws : List ℕ} {n m k : ℕ} → k ≡ n → UsableList ws n m → UsableList ws k m
@@ -147,6 +173,28 @@ module _ (n hold : ℕ) (p : Pair) (at leastAt greatestAt : ℕ) where
       ≡ faultAfter f (valueChecks n hold p at leastAt greatestAt)
   unfolding faultAfter
   hold-last f = rw (le-ltb (p .least) 0 (omega arith), or-passed)
+
+and-false : (b : Bool) → b && false ≡ false
+and-false true = refl
+and-false false = refl
+
+-- the order of m pairs passes where it is not asked for, and where they ascend
+pub order-pass : (asked : Bool) (f : ℕ → Pair) {m k : ℕ} (at : ℕ) → (asked ≡ true → Ascends f m) → k < m
+    → firstFault (orderCheck asked f k at ∷ []) ≡ None
+order-pass false f {m} {k} at a h = passes (orderCheck false f k at ∷ []) (refl, tt)
+order-pass true f {m} {k} at a h = passes (orderCheck true f k at ∷ []) (above-none f m (a refl) k h, tt)
+
+-- what the order of pair k comes to: met where it is not asked for, and for the first pair; else it is compared with the one before it
+module _ (asked : Bool) (f : ℕ → Pair) (k at : ℕ) where
+  pub order-unasked : asked ≡ false → firstFault (orderCheck asked f k at ∷ []) ≡ None
+  order-unasked e = passes (orderCheck asked f k at ∷ []) (rw e, tt)
+
+  pub order-first : k ≡ 0 → firstFault (orderCheck asked f k at ∷ []) ≡ None
+  order-first e = passes (orderCheck asked f k at ∷ []) (rw (e, above-first f) (and-false asked), tt)
+
+  pub order-later : asked ≡ true → 0 < k → firstFault (orderCheck asked f k at ∷ []) ≡ orCheck None (leb (keyOf (f k)) (keyOf (f (k - 1))), 20, at)
+  unfolding faultAfter
+  order-later e h = rw (e, above-later f k h)
 
 module _ (p least greatest at : ℕ) where
   kinds-in : firstFault (kindChecks p least greatest at) ≡ None → KindsIn p least greatest
@@ -221,37 +269,54 @@ module _ (ws : List ℕ) where
     pub values : (k : ℕ) → k < pairCount ws → WrittenIn (registers ws) (holdAt ws (writtenAt ws k .capture)) (writtenAt ws k)
     pub end : EndIn ws (pairPlace ws (pairCount ws))
 
-  pub list-in : firstFault (listChecks ws) ≡ None → ListIn
-  list-in e =
-      let body = both-pass (headChecks (word ws 0) (word ws 1) (length ws)) (bodyChecks ws (registers ws) (pairCount ws)) e in
-      let block = both-pass (blockChecks ws (needWords ws)) (pairsChecks ws (registers ws) (pairCount ws)) (body .1) in
+  -- the checks of pair k, the order asked for or not: of its words, of its values, of its order
+  parts : (asked : Bool) → firstFault (checksBy asked ws) ≡ None → (k : ℕ) → k < pairCount ws
+      → (firstFault (kindChecks (word ws (pairPlace ws k)) (word ws (pairPlace ws k + 1)) (word ws (pairPlace ws k + 2)) (pairPlace ws k)) ≡ None)
+      × ((firstFault (valueChecks (registers ws) (holdAt ws (writtenAt ws k .capture)) (writtenAt ws k)
+      (pairPlace ws k) (pairPlace ws k + 1) (pairPlace ws k + 2)) ≡ None)
+      × (asked && notAbove (writtenAt ws) k ≡ false))
+  parts asked e k h =
+      let body = both-pass (headChecks (word ws 0) (word ws 1) (length ws)) (bodyChecks asked ws (registers ws) (pairCount ws)) e in
+      let block = both-pass (blockChecks ws (needWords ws)) (pairsChecks asked ws (registers ws) (pairCount ws)) (body .1) in
+      let rest = both-pass (eachCheck (pairChecks asked ws (registers ws)) 0 (pairCount ws)) (endChecks ws (pairPlace ws (pairCount ws))) (block .1) in
+      let row = both-pass (ownChecks ws (registers ws) k) _ (each-of (pairChecks asked ws (registers ws)) (pairCount ws) (rest .0) k h) in
+      let own = both-pass (kindChecks (word ws (pairPlace ws k)) (word ws (pairPlace ws k + 1)) (word ws (pairPlace ws k + 2)) (pairPlace ws k)) _ (row .0) in
+      (own .0, (own .1, passed (orderCheck asked (writtenAt ws) k (pairPlace ws k) ∷ []) (row .1) .0))
+
+  pub passed-in : (asked : Bool) → firstFault (checksBy asked ws) ≡ None → ListIn
+  passed-in asked e =
+      let body = both-pass (headChecks (word ws 0) (word ws 1) (length ws)) (bodyChecks asked ws (registers ws) (pairCount ws)) e in
+      let block = both-pass (blockChecks ws (needWords ws)) (pairsChecks asked ws (registers ws) (pairCount ws)) (body .1) in
       let needs = both-pass (eachCheck (needChecks ws) 0 (needWords ws)) _ (block .0) in
-      let rest = both-pass (eachCheck (pairChecks ws (registers ws)) 0 (pairCount ws)) (endChecks ws (pairPlace ws (pairCount ws))) (block .1) in
+      let rest = both-pass (eachCheck (pairChecks asked ws (registers ws)) 0 (pairCount ws)) (endChecks ws (pairPlace ws (pairCount ws))) (block .1) in
       record {
         head = head-in (body .0);
         needs = λ r h. need-in r (each-of (needChecks ws) (needWords ws) (needs .0) r h);
         needed = passed _ (needs .1) .0;
-        kinds = λ k h. kinds-in _ _ _ _ (parts k (rest .0) h .0);
-        values = λ k h. values-in _ _ _ _ _ _ (parts k (rest .0) h .1);
+        kinds = λ k h. kinds-in _ _ _ _ (parts asked e k h .0);
+        values = λ k h. values-in _ _ _ _ _ _ (parts asked e k h .1 .0);
         end = end-in _ (rest .1);
       }
-    where
-      parts : (k : ℕ) → firstFault (eachCheck (pairChecks ws (registers ws)) 0 (pairCount ws)) ≡ None → k < pairCount ws
-          → (firstFault (kindChecks (word ws (pairPlace ws k)) (word ws (pairPlace ws k + 1)) (word ws (pairPlace ws k + 2)) (pairPlace ws k)) ≡ None)
-          × (firstFault (valueChecks (registers ws) (holdAt ws (writtenAt ws k .capture)) (writtenAt ws k)
-          (pairPlace ws k) (pairPlace ws k + 1) (pairPlace ws k + 2)) ≡ None)
-      parts k e h = both-pass _ _ (each-of (pairChecks ws (registers ws)) (pairCount ws) e k h)
 
-  pub list-pass : ListIn → firstFault (listChecks ws) ≡ None
-  list-pass l =
-      pass-both (headChecks (word ws 0) (word ws 1) (length ws)) (bodyChecks ws (registers ws) (pairCount ws)) (head-pass (l .head))
-      (pass-both (blockChecks ws (needWords ws)) (pairsChecks ws (registers ws) (pairCount ws))
+  pub list-in : firstFault (listChecks ws) ≡ None → ListIn
+  list-in e = passed-in true e
+
+  -- the order that was asked for
+  pub list-ascends : firstFault (listChecks ws) ≡ None → Ascends (writtenAt ws) (pairCount ws)
+  list-ascends e = none-above (writtenAt ws) (pairCount ws) (λ k h. parts true e k h .1 .1)
+
+  pub list-pass : (asked : Bool) → ListIn → (asked ≡ true → Ascends (writtenAt ws) (pairCount ws)) → firstFault (checksBy asked ws) ≡ None
+  list-pass asked l a =
+      pass-both (headChecks (word ws 0) (word ws 1) (length ws)) (bodyChecks asked ws (registers ws) (pairCount ws)) (head-pass (l .head))
+      (pass-both (blockChecks ws (needWords ws)) (pairsChecks asked ws (registers ws) (pairCount ws))
       (pass-both (eachCheck (needChecks ws) 0 (needWords ws)) _
       (all-of (needChecks ws) (needWords ws) (λ r h. need-pass r (l .needs r h)))
       (passes _ (l .needed, tt)))
-      (pass-both (eachCheck (pairChecks ws (registers ws)) 0 (pairCount ws)) (endChecks ws (pairPlace ws (pairCount ws)))
-      (all-of (pairChecks ws (registers ws)) (pairCount ws)
-      (λ k h. pass-both _ _ (kinds-pass _ _ _ _ (l .kinds k h)) (values-pass _ _ _ _ _ _ (l .values k h))))
+      (pass-both (eachCheck (pairChecks asked ws (registers ws)) 0 (pairCount ws)) (endChecks ws (pairPlace ws (pairCount ws)))
+      (all-of (pairChecks asked ws (registers ws)) (pairCount ws)
+      (λ k h. pass-both (ownChecks ws (registers ws) k) _
+      (pass-both _ _ (kinds-pass _ _ _ _ (l .kinds k h)) (values-pass _ _ _ _ _ _ (l .values k h)))
+      (order-pass asked (writtenAt ws) (pairPlace ws k) a h)))
       (end-pass _ (l .end))))
 
   -- no need is above the limit

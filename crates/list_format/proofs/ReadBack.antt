@@ -12,7 +12,10 @@ use native.Mathlib.Omega.{arith}
 use lib.ListN.{length, getD, take, drop}
 use lib.Seq.{take-suc, take-all, take-add, drop-drop}
 use borrow.Author.Tests.{lt-ltb, le-ltb, ne-eqb}
+use Rattle.timing.specs.declared.Pair.{Pair}
 use Rattle.timing.specs.Limits.{maxPairs, maxNeed}
+use Rattle.ordering.specs.Order.{Ascends}
+use Rattle.ordering.proofs.OrderLaws.{ascends-same}
 use Rattle.words.specs.Word.{kindLeast, kindGreatest, kindEnd, wordOf, kindOf, payloadOf}
 use Rattle.words.proofs.WordLaws.{word-of-parts, word-of-head, word-of-needs, word-of-pair}
 use Rattle.buffers.specs.Run.{run}
@@ -25,8 +28,8 @@ use Rattle.list_format.specs.Lists.{word, registers, pairCount, needWord
 use Rattle.list_format.specs.Lists.{noNeeds, valueChecks}
 use Rattle.list_format.specs.Read.{fourOf, numbersOf}
 use Rattle.list_format.specs.Write.{givenCount, givenPair, givenHold, givenSetup, givenNeeds, oneOf, threeOf, openHead, openList, withEnd}
-use Rattle.list_format.specs.Write.{wordsOf, endPlace, countChecks, givenNeedChecks, givenChecks, writeChecks, writing}
-use Rattle.list_format.proofs.ListLaws.{ListIn, no-difference, values-pass, needs-within}
+use Rattle.list_format.specs.Write.{wordsOf, endPlace, countChecks, givenNeedChecks, givenChecks, writeChecks, writingBy}
+use Rattle.list_format.proofs.ListLaws.{ListIn, no-difference, values-pass, order-pass, needs-within}
 use Rattle.list_format.proofs.NeedsLaws.{hold-at, setup-at, needs-all, needs-length, need-at, needs-none}
 
 -- a word of a kind, from its payload
@@ -151,13 +154,18 @@ module _ (ws : List ℕ) (l : ListIn ws) where
       ∙ rw (← l .end .payload, of-kind kindEnd (word ws at) (l .end .kind))
       (sym (take-suc ws at 0 (omega (arith, l .head .size))) ∙ take-all (suc at) ws (omega (arith, l .head .size)))
 
-  -- the writer refuses none of it
-  checks-back : (room : ℕ) → length ws ≤ room → firstFault (writeChecks (registers ws) (numbersOf ws) (needsOf ws) room) ≡ None
-  checks-back room h =
+  -- pairs that ascend in the list do so in its numbers
+  given-ascends : Ascends (writtenAt ws) (pairCount ws) → Ascends (givenPair (numbersOf ws)) (givenCount (numbersOf ws))
+  given-ascends a = rw (count-is ws) (ascends-same (givenPair (numbersOf ws)) (writtenAt ws) (pairCount ws) given-is a)
+
+  -- the writer refuses none of it, and the order only where it is asked for
+  checks-back : (asked : Bool) → (asked ≡ true → Ascends (writtenAt ws) (pairCount ws)) → (room : ℕ) → length ws ≤ room
+      → firstFault (writeChecks asked (registers ws) (numbersOf ws) (needsOf ws) room) ≡ None
+  checks-back asked a room h =
       pass-both (countChecks (registers ws) (length (numbersOf ws)) (length (needsOf ws))) _ counts
       (pass-both (eachCheck (givenNeedChecks (needsOf ws)) 0 (registers ws)) _ (all-of (givenNeedChecks (needsOf ws)) (registers ws) needs)
-      (pass-both (eachCheck (givenChecks (registers ws) (numbersOf ws) (needsOf ws)) 0 (givenCount (numbersOf ws))) _
-      (all-of (givenChecks (registers ws) (numbersOf ws) (needsOf ws)) (givenCount (numbersOf ws)) each)
+      (pass-both (eachCheck (givenChecks asked (registers ws) (numbersOf ws) (needsOf ws)) 0 (givenCount (numbersOf ws))) _
+      (all-of (givenChecks asked (registers ws) (numbersOf ws) (needsOf ws)) (givenCount (numbersOf ws)) each)
       (passes _ (le-ltb room (endPlace (registers ws) (numbersOf ws) (needsOf ws) + 1) (omega (arith, l .head .size, count-is ws, needs-is)), tt))))
     where
       counts : firstFault (countChecks (registers ws) (length (numbersOf ws)) (length (needsOf ws))) ≡ None
@@ -181,14 +189,18 @@ module _ (ws : List ℕ) (l : ListIn ws) where
             (le-ltb maxNeed (givenSetup (needsOf ws) r) (rw (setup-is ws b) (w .setup)), tt),
           )
 
-      each : (k : ℕ) → k < givenCount (numbersOf ws) → firstFault (givenChecks (registers ws) (numbersOf ws) (needsOf ws) k) ≡ None
+      each : (k : ℕ) → k < givenCount (numbersOf ws) → firstFault (givenChecks asked (registers ws) (numbersOf ws) (needsOf ws) k) ≡ None
       each k b =
           let below : k < pairCount ws = omega (arith, count-is ws) in
           let v = l .values k below in
-          ap (λ p. firstFault (valueChecks (registers ws) (givenHold (needsOf ws) (p .capture)) p k k k)) (given-is k below)
+          let p : Pair = givenPair (numbersOf ws) k in
+          pass-both (valueChecks (registers ws) (givenHold (needsOf ws) (p .capture)) p k k k) _
+          (ap (λ p. firstFault (valueChecks (registers ws) (givenHold (needsOf ws) (p .capture)) p k k k)) (given-is k below)
           ∙ values-pass (registers ws) (givenHold (needsOf ws) (writtenAt ws k .capture)) (writtenAt ws k) k k k
-          (record { values = v .values; holds = rw (hold-is ws (v .values .capture)) (v .holds) })
+          (record { values = v .values; holds = rw (hold-is ws (v .values .capture)) (v .holds) }))
+          (order-pass asked (givenPair (numbersOf ws)) k (λ e. given-ascends (a e)) b)
 
-  pub read-back : (room : ℕ) → length ws ≤ room → writing (registers ws) (numbersOf ws) (needsOf ws) room ≡ done (length ws ∷ []) ws
-  unfolding writing unless
-  read-back room h = rw (checks-back room h, words-back, count-is ws, needs-is, ← l .head .size)
+  pub read-back : (asked : Bool) → (asked ≡ true → Ascends (writtenAt ws) (pairCount ws)) → (room : ℕ) → length ws ≤ room
+      → writingBy asked (registers ws) (numbersOf ws) (needsOf ws) room ≡ done (length ws ∷ []) ws
+  unfolding writingBy unless
+  read-back asked a room h = rw (checks-back asked a room h, words-back, count-is ws, needs-is, ← l .head .size)

@@ -1,5 +1,6 @@
 -- The three ways that reading can end, each with the whole promise.
 use Prim.Native.Nat.{ℕ, _+_, _*_, _<_, _≤_}
+use mathlib.Core.Bool.{true}
 use mathlib.Core.List.{List, [], _∷_, _++_, append-assoc}
 use mathlib.Core.Path.{_≡_, _∙_}
 use native.Mathlib.Omega.{arith}
@@ -16,7 +17,7 @@ use Rattle.list_format.specs.RoundTrip.{ReadAs}
 use Rattle.list_format.specs.declared.Verdict.the-variants.{Accepted, Refused}
 use Rattle.list_format.specs.declared.Reading.the-variants.{Read}
 use Rattle.list_format.specs.declared.Reading.the-variants.{Refused as NotRead}
-use Rattle.list_format.proofs.ListLaws.{refused→fault, accepted→none, list-in}
+use Rattle.list_format.proofs.ListLaws.{refused→fault, accepted→none, list-in, list-ascends}
 use Rattle.list_format.proofs.ReadBack.{numbers-length, read-back}
 use Rattle.list_format.proofs.NeedsLaws.{needs-length}
 
@@ -74,4 +75,4 @@ module _ (ws was : List ℕ) where
               drop-at (numbersOf ws) _ (4 * l) size,
               take-at (needsOf ws) rest (2 * registers ws) (needs-length ws),
             )
-            (read-back ws (list-in ws (a .none)) room r)
+            (read-back ws (list-in ws (a .none)) true (λ e. list-ascends ws (a .none)) room r)

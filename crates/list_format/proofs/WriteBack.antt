@@ -13,6 +13,8 @@ use lib.ListN.{length, getD, take, drop, length-append, List·getD-append}
 use lib.Seq.{take-at, getD-at, getD-append-add}
 use borrow.Author.Tests.{lt-ltb, le-ltb, ltb-false, eqb-false, eq-eqb, ne-eqb}
 use Rattle.timing.specs.declared.Pair.{Pair}
+use Rattle.ordering.specs.Order.{notAbove, Ascends}
+use Rattle.ordering.proofs.OrderLaws.{none-above, ascends-same}
 use Rattle.words.specs.Word.{payloadBits, kindLeast, kindGreatest, kindNeeds, kindEnd, kindOf, payloadOf}
 use Rattle.words.specs.Word.{needsWord, pairWord, endWord, checksum}
 use Rattle.words.proofs.WordLaws.{HeadIs, head-of-word, NeedsWordIs, needs-of-word, PairWordIs, pair-of-word, kind-of-word, payload-of-word}
@@ -23,7 +25,7 @@ use Rattle.refusals.specs.Reply.{done, unless}
 use Rattle.refusals.specs.declared.Fault.the-variants.{None}
 use Rattle.refusals.proofs.CheckLaws.{both-pass, pass-both, passed, passes, each-of}
 use Rattle.list_format.specs.Lists.{word, registers, pairCount, needWordsBy, needWords, holdAt, setupAt, twoAt, needsOf, placeBy}
-use Rattle.list_format.specs.Lists.{writtenAt, noNeeds, listChecks, WrittenIn}
+use Rattle.list_format.specs.Lists.{writtenAt, noNeeds, valueChecks, orderCheck, listChecks, WrittenIn}
 use Rattle.list_format.specs.Read.{fourOf, numbersOf, readPlaces, readChecks, reading}
 use Rattle.list_format.specs.Write.{givenCount, givenPair, givenHold, givenSetup, givenNeeds, FitsWords, NeedsFit, oneOf, threeOf, openHead, openList}
 use Rattle.list_format.specs.Write.{wordsOf, endPlace, countChecks, givenNeedChecks, givenChecks, writeChecks, GivenIn}
@@ -56,23 +58,39 @@ module _ (n : ℕ) (ys : List ℕ) where
       go true = omega arith
       go false = omega arith
 
-pub given-in : (n : ℕ) (xs ys : List ℕ) (room : ℕ) → firstFault (writeChecks n xs ys room) ≡ None → GivenIn n xs ys
-given-in n xs ys room e =
-    let body = both-pass (countChecks n (length xs) (length ys)) _ e in
-    let h = passed (countChecks n (length xs) (length ys)) (body .0) in
-    let needs = both-pass (eachCheck (givenNeedChecks ys) 0 n) _ (body .1) in
-    let rest = both-pass (eachCheck (givenChecks n xs ys) 0 (givenCount xs)) _ (needs .1) in
-    record {
-      size = omega (arith, same (length xs % 4) 0 (h .0));
-      some = omega (arith, eqb-false n 0 (h .1 .0));
-      most = ltb-false _ _ (h .1 .1 .0);
-      few = ltb-false _ _ (h .1 .1 .1 .0);
-      two = same _ _ (h .1 .1 .1 .1 .0);
-      needs = λ r l.
-          let w = passed (givenNeedChecks ys r) (each-of (givenNeedChecks ys) n (needs .0) r l) in
-          record { hold = ltb-false _ _ (w .0); setup = ltb-false _ _ (w .1 .0) };
-      values = λ k l. values-in n _ (givenPair xs k) k k k (each-of (givenChecks n xs ys) (givenCount xs) (rest .0) k l);
-    }
+module _ (asked : Bool) (n : ℕ) (xs ys : List ℕ) (room : ℕ) (e : firstFault (writeChecks asked n xs ys room) ≡ None) where
+  -- the checks of pair k: of its values, and of its order
+  given-parts : (k : ℕ) → k < givenCount xs
+      → (firstFault (valueChecks n (givenHold ys (givenPair xs k .capture)) (givenPair xs k) k k k) ≡ None)
+      × (asked && notAbove (givenPair xs) k ≡ false)
+  given-parts k l =
+      let body = both-pass (countChecks n (length xs) (length ys)) _ e in
+      let needs = both-pass (eachCheck (givenNeedChecks ys) 0 n) _ (body .1) in
+      let rest = both-pass (eachCheck (givenChecks asked n xs ys) 0 (givenCount xs)) _ (needs .1) in
+      let row = both-pass (valueChecks n (givenHold ys (givenPair xs k .capture)) (givenPair xs k) k k k) _
+          (each-of (givenChecks asked n xs ys) (givenCount xs) (rest .0) k l) in
+      (row .0, passed (orderCheck asked (givenPair xs) k k ∷ []) (row .1) .0)
+
+  pub given-in : GivenIn n xs ys
+  given-in =
+      let body = both-pass (countChecks n (length xs) (length ys)) _ e in
+      let h = passed (countChecks n (length xs) (length ys)) (body .0) in
+      let needs = both-pass (eachCheck (givenNeedChecks ys) 0 n) _ (body .1) in
+      record {
+        size = omega (arith, same (length xs % 4) 0 (h .0));
+        some = omega (arith, eqb-false n 0 (h .1 .0));
+        most = ltb-false _ _ (h .1 .1 .0);
+        few = ltb-false _ _ (h .1 .1 .1 .0);
+        two = same _ _ (h .1 .1 .1 .1 .0);
+        needs = λ r l.
+            let w = passed (givenNeedChecks ys r) (each-of (givenNeedChecks ys) n (needs .0) r l) in
+            record { hold = ltb-false _ _ (w .0); setup = ltb-false _ _ (w .1 .0) };
+        values = λ k l. values-in n _ (givenPair xs k) k k k (given-parts k l .0);
+      }
+
+-- the order that was asked for
+pub given-rise : (n : ℕ) (xs ys : List ℕ) (room : ℕ) → firstFault (writeChecks true n xs ys room) ≡ None → Ascends (givenPair xs) (givenCount xs)
+given-rise n xs ys room e = none-above (givenPair xs) (givenCount xs) (λ k l. given-parts true n xs ys room e k l .1)
 
 module _ (n : ℕ) (xs ys : List ℕ) (g : GivenIn n xs ys) where
   pub head-length : length (openHead n xs ys) ≡ 1 + givenNeeds n ys
@@ -288,12 +306,17 @@ module _ (n : ℕ) (xs ys : List ℕ) (g : GivenIn n xs ys) where
           let fourth : 4 * k + 2 + 1 ≡ 4 * k + 3 = omega arith in
           ap fourOf (pair-is k h) ∙ sym (take-stretch 4 xs (4 * k) (omega (arith, g .size)) ∙ rw (third, fourth))
 
-  pub write-back : (room : ℕ) → length xs + length ys ≤ room → reading (wordsOf n xs ys) room ≡ done (n ∷ givenCount xs ∷ []) (xs ++ ys)
+  -- pairs that ascend do so in the list
+  pub ascends-back : Ascends (givenPair xs) (givenCount xs) → Ascends (writtenAt (wordsOf n xs ys)) (pairCount (wordsOf n xs ys))
+  ascends-back a = rw (head-is .pairs) (ascends-same (writtenAt (wordsOf n xs ys)) (givenPair xs) (givenCount xs) pair-is a)
+
+  pub write-back : Ascends (givenPair xs) (givenCount xs) → (room : ℕ) → length xs + length ys ≤ room
+      → reading (wordsOf n xs ys) room ≡ done (n ∷ givenCount xs ∷ []) (xs ++ ys)
   unfolding reading unless
-  write-back room h = rw (checks, numbers-back, needs-back, head-is .registers, head-is .pairs)
+  write-back a room h = rw (checks, numbers-back, needs-back, head-is .registers, head-is .pairs)
     where
       checks : firstFault (readChecks (wordsOf n xs ys) room) ≡ None
       checks =
           let places = readPlaces (registers (wordsOf n xs ys)) (pairCount (wordsOf n xs ys)) in
-          pass-both (listChecks (wordsOf n xs ys)) _ (list-pass (wordsOf n xs ys) list-back)
+          pass-both (listChecks (wordsOf n xs ys)) _ (list-pass (wordsOf n xs ys) true list-back (λ e. ascends-back a))
           (passes _ (le-ltb room places (omega (arith, g .size, g .two, head-is .pairs, head-is .registers)), tt))

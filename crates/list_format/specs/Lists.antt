@@ -2,7 +2,7 @@
 -- the end word.
 -- This file says where a pair stands, which run of words is refused and why, and what an accepted one says.
 use Prim.Native.Nat.{ℕ, zero, suc, _+_, _-_, _*_, _^_, _<_, _≤_}
-use mathlib.Core.Bool.{Bool, true, not, cond, _&&_}
+use mathlib.Core.Bool.{Bool, true, false, not, cond, _&&_}
 use mathlib.Core.List.{List, [], _∷_, _++_}
 use mathlib.Core.Path.{_≡_}
 use lib.Dec.{ltb, leb, eqb}
@@ -12,6 +12,7 @@ use Rattle.timing.specs.Rules.{pair}
 use Rattle.timing.specs.Limits.{maxRegisters, maxPairs, maxDelay, maxNeed, maxPeriod}
 use Rattle.words.specs.Word.{payloadBits, kindHead, kindPair, kindLeast, kindGreatest, kindNeeds, kindEnd, kindOf, payloadOf, checksum}
 use Rattle.words.specs.Word.{headPairs, headRegisters, headSpare, launchOf, captureOf, pairSpare, holdOf, setupOf, needsSpare}
+use Rattle.ordering.specs.Order.{notAbove}
 use Rattle.buffers.specs.Run.{run}
 use Rattle.refusals.specs.Checks.{Check, firstFault, eachCheck}
 use Rattle.refusals.specs.declared.Fault.{Fault}
@@ -152,11 +153,19 @@ valueChecks n hold p at leastAt greatestAt =
     ∷ (ltb (p .least) hold, 19, leastAt)
     ∷ []
 
--- pair k of a list with n registers
-abbrev pub pairChecks : List ℕ → ℕ → ℕ → List Check
-pairChecks ws n k =
+-- pair k of a list with n registers, but for its order
+abbrev pub ownChecks : List ℕ → ℕ → ℕ → List Check
+ownChecks ws n k =
     kindChecks (word ws (pairPlace ws k)) (word ws (pairPlace ws k + 1)) (word ws (pairPlace ws k + 2)) (pairPlace ws k)
     ++ valueChecks n (holdAt ws (writtenAt ws k .capture)) (writtenAt ws k) (pairPlace ws k) (pairPlace ws k + 1) (pairPlace ws k + 2)
+
+-- 20: pair k is not above the one before it, by launch and then capture; a list that is still to be ordered is not asked for this
+abbrev pub orderCheck : Bool → (ℕ → Pair) → ℕ → ℕ → Check
+orderCheck asked f k at = (asked && notAbove f k, 20, at)
+
+-- all checks of pair k
+abbrev pub pairChecks : Bool → List ℕ → ℕ → ℕ → List Check
+pairChecks asked ws n k = ownChecks ws n k ++ (orderCheck asked (writtenAt ws) k (pairPlace ws k) ∷ [])
 
 -- 13 and 17: the end word, which stands at `at`
 abbrev pub endChecks : List ℕ → ℕ → List Check
@@ -166,15 +175,24 @@ endChecks ws at =
     ∷ []
 
 -- the pairs of a list of n registers and m pairs, one by one, then the end
-abbrev pub pairsChecks : List ℕ → ℕ → ℕ → List Check
-pairsChecks ws n m = eachCheck (pairChecks ws n) 0 m ++ endChecks ws (pairPlace ws m)
+abbrev pub pairsChecks : Bool → List ℕ → ℕ → ℕ → List Check
+pairsChecks asked ws n m = eachCheck (pairChecks asked ws n) 0 m ++ endChecks ws (pairPlace ws m)
 
 -- what stands after the head
-abbrev pub bodyChecks : List ℕ → ℕ → ℕ → List Check
-bodyChecks ws n m = blockChecks ws (needWords ws) ++ pairsChecks ws n m
+abbrev pub bodyChecks : Bool → List ℕ → ℕ → ℕ → List Check
+bodyChecks asked ws n m = blockChecks ws (needWords ws) ++ pairsChecks asked ws n m
 
+-- all checks, with the order asked for or not
+abbrev pub checksBy : Bool → List ℕ → List Check
+checksBy asked ws = headChecks (word ws 0) (word ws 1) (length ws) ++ bodyChecks asked ws (registers ws) (pairCount ws)
+
+-- those of a list
 abbrev pub listChecks : List ℕ → List Check
-listChecks ws = headChecks (word ws 0) (word ws 1) (length ws) ++ bodyChecks ws (registers ws) (pairCount ws)
+listChecks = checksBy true
+
+-- those of a stored list in any order, which may name a pair more than once: all but 20
+abbrev pub storedChecks : List ℕ → List Check
+storedChecks = checksBy false
 
 -- ---- the verdict
 
@@ -183,8 +201,11 @@ judged ws None = Accepted (registers ws) (pairCount ws)
 judged ws (At number place) = Refused number place
 
 -- the first refusal with its place, or the counts
-unfoldable pub verdict : List ℕ → Verdict
-verdict ws = judged ws (firstFault (listChecks ws))
+unfoldable pub verdictBy : Bool → List ℕ → Verdict
+verdictBy asked ws = judged ws (firstFault (checksBy asked ws))
+
+abbrev pub verdict : List ℕ → Verdict
+verdict = verdictBy true
 
 -- the needs of a register: hold h and setup s
 pub record NeedsIn (h s : ℕ) : Type 0 where

@@ -21,7 +21,7 @@ numbersOf ws = run (λ k. fourOf (writtenAt ws k)) (pairCount ws)
 abbrev pub readPlaces : ℕ → ℕ → ℕ
 readPlaces n m = 4 * m + 2 * n
 
--- 11 to 19, then 2: an answer buffer of fewer than 4m + 2n places
+-- 11 to 20, then 2: an answer buffer of fewer than 4m + 2n places
 abbrev pub readChecks : List ℕ → ℕ → List Check
 readChecks ws room = listChecks ws ++ ((ltb room (readPlaces (registers ws) (pairCount ws)), 2, 0) ∷ [])
 

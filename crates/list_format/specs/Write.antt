@@ -1,6 +1,6 @@
 -- Writing a delay list from plain numbers: n, launch, capture, least and greatest of each pair, and hold and setup of each register.
 use Prim.Native.Nat.{ℕ, _+_, _*_, _/_, _%_, _^_, _<_, _≤_}
-use mathlib.Core.Bool.{cond}
+use mathlib.Core.Bool.{Bool, true, cond}
 use mathlib.Core.List.{List, [], _∷_, _++_}
 use mathlib.Core.Path.{_≡_}
 use lib.Dec.{ltb, eqb}
@@ -12,7 +12,7 @@ use Rattle.words.specs.Word.{registerBits, payloadBits, needBits, headWord, nee
 use Rattle.buffers.specs.Run.{run}
 use Rattle.refusals.specs.Checks.{Check, eachCheck}
 use Rattle.refusals.specs.Reply.{Reply, refusal, numbers, Outcome, done, answered}
-use Rattle.list_format.specs.Lists.{placeBy, differ, noNeeds, valueChecks, NeedsIn, WrittenIn}
+use Rattle.list_format.specs.Lists.{placeBy, differ, noNeeds, valueChecks, orderCheck, NeedsIn, WrittenIn}
 use Rattle.list_format.specs.declared.Writing.{Writing}
 use Rattle.list_format.specs.declared.Writing.the-variants.{Written, Refused}
 
@@ -94,22 +94,23 @@ countChecks n len needs =
 abbrev pub givenNeedChecks : List ℕ → ℕ → List Check
 givenNeedChecks ys r = (ltb maxNeed (givenHold ys r), 13, r) ∷ (ltb maxNeed (givenSetup ys r), 13, r) ∷ []
 
--- 14, 15, 16, 19, the place being the pair's index
-abbrev pub givenChecks : ℕ → List ℕ → List ℕ → ℕ → List Check
-givenChecks n xs ys k = valueChecks n (givenHold ys (givenPair xs k .capture)) (givenPair xs k) k k k
+-- 14, 15, 16, 19, 20, the place being the pair's index; 20 where the order is asked for
+abbrev pub givenChecks : Bool → ℕ → List ℕ → List ℕ → ℕ → List Check
+givenChecks asked n xs ys k =
+    valueChecks n (givenHold ys (givenPair xs k .capture)) (givenPair xs k) k k k ++ (orderCheck asked (givenPair xs) k k ∷ [])
 
 -- all m pairs, then 2: an answer buffer with no place for the end word
-abbrev pub givenPairs : ℕ → List ℕ → List ℕ → ℕ → ℕ → List Check
-givenPairs n xs ys m room = eachCheck (givenChecks n xs ys) 0 m ++ ((ltb room (placeBy (givenNeeds n ys) m + 1), 2, 0) ∷ [])
+abbrev pub givenPairs : Bool → ℕ → List ℕ → List ℕ → ℕ → ℕ → List Check
+givenPairs asked n xs ys m room = eachCheck (givenChecks asked n xs ys) 0 m ++ ((ltb room (placeBy (givenNeeds n ys) m + 1), 2, 0) ∷ [])
 
 -- all n registers, then the pairs and the room
-abbrev pub givenBody : ℕ → List ℕ → List ℕ → ℕ → ℕ → List Check
-givenBody n xs ys m room = eachCheck (givenNeedChecks ys) 0 n ++ givenPairs n xs ys m room
+abbrev pub givenBody : Bool → ℕ → List ℕ → List ℕ → ℕ → ℕ → List Check
+givenBody asked n xs ys m room = eachCheck (givenNeedChecks ys) 0 n ++ givenPairs asked n xs ys m room
 
-abbrev pub writeChecks : ℕ → List ℕ → List ℕ → ℕ → List Check
-writeChecks n xs ys room = countChecks n (length xs) (length ys) ++ givenBody n xs ys (givenCount xs) room
+abbrev pub writeChecks : Bool → ℕ → List ℕ → List ℕ → ℕ → List Check
+writeChecks asked n xs ys room = countChecks n (length xs) (length ys) ++ givenBody asked n xs ys (givenCount xs) room
 
--- what the checks leave: as many numbers as four a pair and two a register, counts and values in range
+-- what the checks but 20 leave: as many numbers as four a pair and two a register, counts and values in range
 pub record GivenIn (n : ℕ) (xs ys : List ℕ) : Type 0 where
   pub size : length xs ≡ 4 * givenCount xs
   pub some : 0 < n
@@ -119,9 +120,12 @@ pub record GivenIn (n : ℕ) (xs ys : List ℕ) : Type 0 where
   pub needs : (r : ℕ) → r < n → NeedsIn (givenHold ys r) (givenSetup ys r)
   pub values : (k : ℕ) → k < givenCount xs → WrittenIn n (givenHold ys (givenPair xs k .capture)) (givenPair xs k)
 
--- writing into `room` places: the count of words is returned, and that many places are filled
-unfoldable pub writing : ℕ → List ℕ → List ℕ → ℕ → Outcome
-writing n xs ys room = answered (writeChecks n xs ys room) (done ((endPlace n xs ys + 1) ∷ []) (wordsOf n xs ys))
+-- writing into `room` places, with the order asked for or not: the count of words is returned, and that many places are filled
+unfoldable pub writingBy : Bool → ℕ → List ℕ → List ℕ → ℕ → Outcome
+writingBy asked n xs ys room = answered (writeChecks asked n xs ys room) (done ((endPlace n xs ys + 1) ∷ []) (wordsOf n xs ys))
+
+abbrev pub writing : ℕ → List ℕ → List ℕ → ℕ → Outcome
+writing = writingBy true
 
 -- the number and values of each case of the answer
 unfoldable pub writeReply : Writing → Reply

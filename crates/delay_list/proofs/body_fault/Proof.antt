@@ -10,7 +10,7 @@ returns c =
     let s = c .before .before .before .before in
     let ws = s .args .words .now in
     rw (c .then .ensures, c .before .pairs-fault .ensures, c .before .before .block-fault .ensures, s .pre .0)
-    (then-both (blockChecks ws (needWords ws)) (pairsChecks ws (s .args .n) (s .args .m)))
+    (then-both (blockChecks ws (needWords ws)) (pairsChecks (s .args .asked) ws (s .args .n) (s .args .m)))
 
 pub body-fault-spec : {M : Type 1} → statement M
 body-fault-spec = tie.close (tie.spec (λ c κs. search needs) (λ c κs. search needs) (λ c κs. search needs) returns)

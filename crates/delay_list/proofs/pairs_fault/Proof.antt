@@ -10,10 +10,10 @@ use Rattle.delay_list.proofs.pairs_fault.Statement.{statement}
 use Rattle.delay_list.proofs.pairs_fault.Tie as tie
 
 abbrev Inv-loop : tie.InvT-loop
-Inv-loop words needs n m k₀ k = Remaining (pairChecks words n) (endChecks words (pairPlace words m)) m k
+Inv-loop words needs asked n m k₀ k = Remaining (pairChecks asked words n) (endChecks words (pairPlace words m)) m k
 
 abbrev μ-loop : tie.MeasureT-loop
-μ-loop words needs n m k₀ k = m - k
+μ-loop words needs asked n m k₀ k = m - k
 
 loop-holds : tie.Need-loop-holds Inv-loop μ-loop
 loop-holds c = remaining-start _ _ _
