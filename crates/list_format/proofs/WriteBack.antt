@@ -68,7 +68,7 @@ module _ (asked : Bool) (n : ℕ) (xs ys : List ℕ) (room : ℕ) (e : firstFaul
       let needs = both-pass (eachCheck (givenNeedChecks ys) 0 n) _ (body .1) in
       let rest = both-pass (eachCheck (givenChecks asked n xs ys) 0 (givenCount xs)) _ (needs .1) in
       let row = both-pass (valueChecks n (givenHold ys (givenPair xs k .capture)) (givenPair xs k) k k k) _
-          (each-of (givenChecks asked n xs ys) (givenCount xs) (rest .0) k l) in
+      (each-of (givenChecks asked n xs ys) (givenCount xs) (rest .0) k l) in
       (row .0, passed (orderCheck asked (givenPair xs) k k ∷ []) (row .1) .0)
 
   pub given-in : GivenIn n xs ys

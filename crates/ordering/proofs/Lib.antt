@@ -1,2 +1,4 @@
 -- The laws, which other crates may cite too.
 pub mod OrderLaws
+pub mod UniqueLaws
+pub mod GroupLaws

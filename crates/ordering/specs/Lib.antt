@@ -1,2 +1,3 @@
 -- The definitions, which the contracts of other crates cite.
 pub mod Order
+pub mod Group

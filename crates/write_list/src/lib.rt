@@ -1,17 +1,19 @@
 // Job 1, writing: a delay list from plain numbers, four for each pair and two for each register.
 // The contract cites `list_format`: `specs/Write.antt` for the outcome, `specs/RoundTrip.antt` for the whole promise.
 ghost use mathlib.Core.Path.{_≡_};
-ghost use mathlib.Core.List.{_∷_, _++_};
+ghost use mathlib.Core.Bool.{false};
+ghost use mathlib.Core.List.{[], _∷_, _++_};
 ghost use Prim.Native.Nat.{_+_, _*_, _^_, _<_, _≤_};
 ghost use lib.ListN.{length, take, drop, set};
 ghost use Rattle.buffers.specs.Run.{run};
 ghost use Rattle.buffers.specs.Over.{over};
 ghost use Rattle.words.specs.Word.{countBits, registerBits, headWord, endWord, checksum};
 ghost use Rattle.refusals.specs.Checks.{firstFault};
-ghost use Rattle.list_format.specs.Lists.{placeBy, noNeeds};
+ghost use Rattle.list_format.specs.Lists.{placeBy, noNeeds, orderCheck};
 ghost use Rattle.list_format.specs.Write.{givenPair, givenHold, givenNeeds, FitsWords, PairsFit, NeedsFit, oneOf, threeOf};
-ghost use Rattle.list_format.specs.Write.{wordsOf, endPlace, countChecks, givenNeedChecks, givenPairs, givenBody, writeChecks, GivenIn};
-ghost use Rattle.list_format.specs.RoundTrip.{WrittenAs};
+ghost use Rattle.list_format.specs.Write.{wordsOf, endPlace, countChecks, givenNeedChecks, givenChecks, givenPairs, givenBody};
+ghost use Rattle.list_format.specs.Write.{writeChecks, GivenIn};
+ghost use Rattle.list_format.specs.RoundTrip.{WrittenBy, WrittenAs};
 use list_format::Writing;
 use refusals::Fault;
 use timing::Pair;
@@ -87,19 +89,56 @@ fn need_fault(needs: &[u32], r: usize) -> Fault
         .or(needs[2 * r + 1] > timing::MAX_NEED, 13, r)
 }
 
-// 14, 15, 16, 19 pair by pair, then 2. `count` words of needs are written.
-fn pairs_fault(n: u32, numbers: &[u32], needs: &[u32], count: usize, m: usize, room: usize) -> Fault
+// 20: pair k is not above the one before it, where the order is asked for.
+fn order_fault(numbers: &[u32], asked: bool, k: usize) -> Fault
+    requires { ⌜ 4 * k + 4 ≤ length (now numbers) ⌝ }
+    ensures { λ r. ⌜ r ≡ firstFault (orderCheck asked (givenPair (now (numbers .entry))) k k ∷ []) ⌝ }
+{
+    if !asked {
+        return Fault::None;
+    }
+    if k == 0 {
+        return Fault::None;
+    }
+    let last = given_pair(numbers, k - 1);
+    let p = given_pair(numbers, k);
+    let below = delay_list::key(last.launch, last.capture);
+    Fault::None.or(delay_list::key(p.launch, p.capture) <= below, 20, k)
+}
+
+// 14, 15, 16, 19 and 20: pair k.
+fn pair_fault(n: u32, numbers: &[u32], needs: &[u32], asked: bool, k: usize) -> Fault
+    requires { ⌜ 4 * k + 4 ≤ length (now numbers) ⌝ }
+    ensures { λ r. ⌜ r ≡ firstFault (givenChecks asked n (now (numbers .entry)) (now (needs .entry)) k) ⌝ }
+{
+    let p = given_pair(numbers, k);
+    let hold = given_hold(needs, p.capture);
+    let own = delay_list::value_fault(Fault::None, n, hold, p, k, k, k);
+    if let Fault::At(number, index) = own {
+        return Fault::At(number, index);
+    }
+    order_fault(numbers, asked, k)
+}
+
+// The pairs one by one, then 2. `count` words of needs are written.
+fn pairs_fault(
+    n: u32,
+    numbers: &[u32],
+    needs: &[u32],
+    asked: bool,
+    count: usize,
+    m: usize,
+    room: usize,
+) -> Fault
     requires { ⌜
         (count ≡ givenNeeds n (now needs))
         × ((count < 2 ^ registerBits) × ((m < 2 ^ countBits) × (4 * m ≤ length (now numbers))))
         ⌝ }
-    ensures { λ r. ⌜ r ≡ firstFault (givenPairs n (now (numbers .entry)) (now (needs .entry)) m room) ⌝ }
+    ensures { λ r. ⌜ r ≡ firstFault (givenPairs asked n (now (numbers .entry)) (now (needs .entry)) m room) ⌝ }
 {
     let mut k = 0;
     while k < m {
-        let p = given_pair(numbers, k);
-        let hold = given_hold(needs, p.capture);
-        let found = delay_list::value_fault(Fault::None, n, hold, p, k, k, k);
+        let found = pair_fault(n, numbers, needs, asked, k);
         if let Fault::At(number, index) = found {
             return Fault::At(number, index);
         }
@@ -110,12 +149,20 @@ fn pairs_fault(n: u32, numbers: &[u32], needs: &[u32], count: usize, m: usize, r
 }
 
 // The needs register by register, then the pairs and the room.
-fn body_fault(n: u32, numbers: &[u32], needs: &[u32], count: usize, m: usize, room: usize) -> Fault
+fn body_fault(
+    n: u32,
+    numbers: &[u32],
+    needs: &[u32],
+    asked: bool,
+    count: usize,
+    m: usize,
+    room: usize,
+) -> Fault
     requires { ⌜
         (count ≡ givenNeeds n (now needs))
         × ((count < 2 ^ registerBits) × ((2 * n ≤ length (now needs)) × ((m < 2 ^ countBits) × (4 * m ≤ length (now numbers)))))
         ⌝ }
-    ensures { λ r. ⌜ r ≡ firstFault (givenBody n (now (numbers .entry)) (now (needs .entry)) m room) ⌝ }
+    ensures { λ r. ⌜ r ≡ firstFault (givenBody asked n (now (numbers .entry)) (now (needs .entry)) m room) ⌝ }
 {
     let mut r = 0;
     while r < n as usize {
@@ -125,17 +172,27 @@ fn body_fault(n: u32, numbers: &[u32], needs: &[u32], count: usize, m: usize, ro
         }
         r += 1;
     }
-    pairs_fault(n, numbers, needs, count, m, room)
+    pairs_fault(n, numbers, needs, asked, count, m, room)
 }
 
 // The first refusal of a call, with `room` places to write to.
-fn write_fault(n: u32, numbers: &[u32], needs: &[u32], count: usize, room: usize) -> Fault
+fn write_fault(
+    n: u32,
+    numbers: &[u32],
+    needs: &[u32],
+    asked: bool,
+    count: usize,
+    room: usize,
+) -> Fault
     requires { ⌜ count ≡ givenNeeds n (now needs) ⌝ }
-    ensures { λ r. ⌜ r ≡ firstFault (writeChecks n (now (numbers .entry)) (now (needs .entry)) room) ⌝ }
+    ensures { λ r. ⌜ r ≡ firstFault (writeChecks asked n (now (numbers .entry)) (now (needs .entry)) room) ⌝ }
 {
     match count_fault(n, numbers.len(), needs.len()) {
         Fault::At(number, place) => Fault::At(number, place),
-        Fault::None => body_fault(n, numbers, needs, count, numbers.len() / 4, room),
+        Fault::None => {
+            let m = numbers.len() / 4;
+            body_fault(n, numbers, needs, asked, count, m, room)
+        }
     }
 }
 
@@ -224,15 +281,29 @@ fn put_list(n: u32, numbers: &[u32], needs: &[u32], count: usize, answer: &mut [
     at + 1
 }
 
+// Writes a list, with the order of its pairs asked for or not.
+fn write_by(n: u32, numbers: &[u32], needs: &[u32], asked: bool, answer: &mut [u32]) -> Writing
+    ensures { λ r. ⌜ WrittenBy asked n (now (numbers .entry)) (now (needs .entry)) (now (answer .entry)) (now (answer .exit)) r ⌝ }
+{
+    let count = given_needs(n, needs);
+    match write_fault(n, numbers, needs, asked, count, answer.len()) {
+        Fault::At(number, place) => Writing::Refused(number, place),
+        Fault::None => Writing::Written(put_list(n, numbers, needs, count, answer)),
+    }
+}
+
 // Writes the delay list of n registers whose pairs are given by four numbers each: launch, capture, least, greatest; and whose needs by two for
 // each register: hold, setup. The count of words is returned and that many places are filled; later places keep their contents. A refusal
 // changes nothing.
 pub fn write(n: u32, numbers: &[u32], needs: &[u32], answer: &mut [u32]) -> Writing
     ensures { λ r. ⌜ WrittenAs n (now (numbers .entry)) (now (needs .entry)) (now (answer .entry)) (now (answer .exit)) r ⌝ }
 {
-    let count = given_needs(n, needs);
-    match write_fault(n, numbers, needs, count, answer.len()) {
-        Fault::At(number, place) => Writing::Refused(number, place),
-        Fault::None => Writing::Written(put_list(n, numbers, needs, count, answer)),
-    }
+    write_by(n, numbers, needs, true, answer)
+}
+
+// Writes a list whose pairs come in any order and may repeat, as it is given: 20 is not asked. It is to be converted before any job takes it.
+pub fn write_stored(n: u32, numbers: &[u32], needs: &[u32], answer: &mut [u32]) -> Writing
+    ensures { λ r. ⌜ WrittenBy false n (now (numbers .entry)) (now (needs .entry)) (now (answer .entry)) (now (answer .exit)) r ⌝ }
+{
+    write_by(n, numbers, needs, false, answer)
 }

@@ -9,10 +9,10 @@ use Rattle.write_list.proofs.body_fault.Statement.{statement}
 use Rattle.write_list.proofs.body_fault.Tie as tie
 
 abbrev Inv-loop : tie.InvT-loop
-Inv-loop n numbers needs count m room r₀ r = Remaining (givenNeedChecks needs) (givenPairs n numbers needs m room) n r
+Inv-loop n numbers needs asked count m room r₀ r = Remaining (givenNeedChecks needs) (givenPairs asked n numbers needs m room) n r
 
 abbrev μ-loop : tie.MeasureT-loop
-μ-loop n numbers needs count m room r₀ r = n - r
+μ-loop n numbers needs asked count m room r₀ r = n - r
 
 pub body-fault-spec : {M : Type 1} → statement M
 body-fault-spec =

@@ -13,28 +13,24 @@ use Rattle.write_list.proofs.pairs_fault.Statement.{statement}
 use Rattle.write_list.proofs.pairs_fault.Tie as tie
 
 abbrev Inv-loop : tie.InvT-loop
-Inv-loop n numbers needs count m room k₀ k =
-    Remaining (givenChecks n numbers needs) ((ltb room (placeBy (givenNeeds n needs) m + 1), 2, 0) ∷ []) m k
+Inv-loop n numbers needs asked count m room k₀ k =
+    Remaining (givenChecks asked n numbers needs) ((ltb room (placeBy (givenNeeds n needs) m + 1), 2, 0) ∷ []) m k
 
 abbrev μ-loop : tie.MeasureT-loop
-μ-loop n numbers needs count m room k₀ k = m - k
+μ-loop n numbers needs asked count m room k₀ k = m - k
 
 loop-holds : tie.Need-loop-holds Inv-loop μ-loop
 loop-holds c = remaining-start _ _ _
 
 returns : tie.Need-returns Inv-loop μ-loop
 returns c =
-    let at = c .before .before .before .before .before .before .before .loop in
-    let v = c .before .before .before in
-    remaining-stops _ _ _ (at .inv) (omega arith)
-    (rw (v .before .given-hold .ensures, v .before .before .given-pair .ensures) at (v .value-fault .ensures)) (c .before .found .given .1)
+    let at = c .before .before .before .before .before .loop in
+    remaining-stops _ _ _ (at .inv) (omega arith) (c .before .before .before .pair-fault .ensures) (c .before .found .given .1)
 
 loop-again : tie.Need-loop-again Inv-loop μ-loop
 loop-again c =
-    let at = c .before .before .before .before .before .before .loop in
-    let v = c .before .before in
-    remaining-turn _ _ _ (at .inv) (omega arith)
-    (rw (v .before .given-hold .ensures, v .before .before .given-pair .ensures) at (v .value-fault .ensures)) (c .enum-told .given .1)
+    let at = c .before .before .before .before .loop in
+    remaining-turn _ _ _ (at .inv) (omega arith) (c .before .before .pair-fault .ensures) (c .enum-told .given .1)
 
 returns-2 : tie.Need-returns-2 Inv-loop μ-loop
 unfolding orCheck faultAfter
@@ -47,6 +43,6 @@ pub pairs-fault-spec : {M : Type 1} → statement M
 pairs-fault-spec =
     tie.close
     (tie.spec
-    Inv-loop μ-loop loop-holds (λ c κs. search needs) (λ c κs. search needs) (λ c κs. search needs) (λ c. search needs) returns
+    Inv-loop μ-loop loop-holds (λ c κs. search needs) (λ c. search needs) returns
     (λ c. search needs) (λ c. search needs) (λ c. search needs) loop-again (λ c κs. search needs)
     (λ c. search needs) (λ c κs. search needs) returns-2)
