@@ -385,7 +385,7 @@ pub fn need_count(words: &[u32]) -> usize
 const FIRST_NEEDS: u32 = 0xA000_0000;
 
 // Pair k as it is written, after so many words of needs.
-fn three_at(words: &[u32], needs: usize, k: usize) -> Pair
+pub fn three_at(words: &[u32], needs: usize, k: usize) -> Pair
     requires { ⌜ (needs ≡ needWords (now words)) × ((needs < 2 ^ registerBits) × PairIn (now words) k) ⌝ }
     ensures { λ r. ⌜ IsWritten (now (words .entry)) k r ⌝ }
 {

@@ -59,14 +59,14 @@ module _ (ws : List ℕ) where
 
 module _ (ws : List ℕ) (l : ListIn ws) where
   -- pair k of the numbers is pair k of the list
-  given-is : (k : ℕ) → k < pairCount ws → givenPair (numbersOf ws) k ≡ writtenAt ws k
+  pub given-is : (k : ℕ) → k < pairCount ws → givenPair (numbersOf ws) k ≡ writtenAt ws k
   given-is k h =
       let z : 4 * k ≡ 4 * k + 0 = omega arith in
       let at = number-at ws k h in
       rw (at 1 (omega arith), at 2 (omega arith), at 3 (omega arith), z, at 0 (omega arith))
 
   -- as many words of needs are written as the list has
-  needs-is : givenNeeds (registers ws) (needsOf ws) ≡ needWords ws
+  pub needs-is : givenNeeds (registers ws) (needsOf ws) ≡ needWords ws
   unfolding givenNeeds
   needs-is = go (needWords ws) refl
     where
@@ -87,7 +87,7 @@ module _ (ws : List ℕ) (l : ListIn ws) where
       go (suc k) e = omega (arith, needs-all ws (omega arith))
 
   -- the word of needs of register r is that of the list
-  one-is : (r : ℕ) → r < needWords ws → oneOf (needsOf ws) r ≡ take 1 (drop (1 * r) (drop 1 ws))
+  pub one-is : (r : ℕ) → r < needWords ws → oneOf (needsOf ws) r ≡ take 1 (drop (1 * r) (drop 1 ws))
   one-is r h =
       let below : r < registers ws = omega (arith, few-needs) in
       let place : 1 + 1 * r ≡ 1 + r = omega arith in

@@ -105,7 +105,7 @@ module _ (n : ℕ) (xs ys : List ℕ) (g : GivenIn n xs ys) where
   words-length = length-append (openList n xs ys (givenCount xs)) _ ∙ ap (λ k. k + 1) open-length
 
   -- the counts
-  head-is : HeadIs n (givenCount xs) (word (wordsOf n xs ys) 0)
+  pub head-is : HeadIs n (givenCount xs) (word (wordsOf n xs ys) 0)
   head-is = head-of-word n (givenCount xs) (omega (arith, g .most)) (omega (arith, g .few))
 
   -- before the end word
@@ -206,7 +206,7 @@ module _ (n : ℕ) (xs ys : List ℕ) (g : GivenIn n xs ys) where
       go (suc k) e = rw (eq-eqb _ kindNeeds (needs-are 0 (omega arith) .kind)) (head-is .registers ∙ sym (all-needs n ys (omega arith)))
 
   -- pair k
-  pair-is : (k : ℕ) → k < givenCount xs → writtenAt (wordsOf n xs ys) k ≡ givenPair xs k
+  pub pair-is : (k : ℕ) → k < givenCount xs → writtenAt (wordsOf n xs ys) k ≡ givenPair xs k
   pair-is k h =
       let fits = given-fits k h in
       rw (
@@ -232,7 +232,7 @@ module _ (n : ℕ) (xs ys : List ℕ) (g : GivenIn n xs ys) where
       }
 
   -- the needs of register r
-  two-back : (r : ℕ) → r < n → (holdAt (wordsOf n xs ys) r ≡ givenHold ys r) × (setupAt (wordsOf n xs ys) r ≡ givenSetup ys r)
+  pub two-back : (r : ℕ) → r < n → (holdAt (wordsOf n xs ys) r ≡ givenHold ys r) × (setupAt (wordsOf n xs ys) r ≡ givenSetup ys r)
   two-back r h = go (noNeeds ys) refl
     where
       go : (none : Bool) → noNeeds ys ≡ none → (holdAt (wordsOf n xs ys) r ≡ givenHold ys r) × (setupAt (wordsOf n xs ys) r ≡ givenSetup ys r)

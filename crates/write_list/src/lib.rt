@@ -254,7 +254,7 @@ fn put_pairs(numbers: &[u32], count: usize, m: usize, answer: &mut [u32])
 }
 
 // The end word, at the place after the words that it sums up.
-fn put_end(answer: &mut [u32], at: usize)
+pub fn put_end(answer: &mut [u32], at: usize)
     requires { ⌜ at < length (now answer) ⌝ }
     ensures { λ _. ⌜ now (answer .exit) ≡ set (now (answer .entry)) at (endWord (checksum (take at (now (answer .entry))))) ⌝ }
 {

@@ -1,0 +1,1 @@
+-- The laws, which other crates may cite too.
