@@ -1,1 +1,3 @@
 -- The laws, which other crates may cite too.
+pub mod MarkLaws
+pub mod JoinLaws
