@@ -5,3 +5,4 @@ pub mod ConvertLaws
 pub mod MarkLaws
 pub mod JoinLaws
 pub mod WalkLaws
+pub mod PutLaws

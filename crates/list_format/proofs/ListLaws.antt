@@ -37,7 +37,7 @@ module _ (asked : Bool) (ws : List ℕ) where
   unfolding judged verdictBy
   fault-refused e = ap (judged ws) e
 
-  none-accepted : firstFault (checksBy asked ws) ≡ None → verdictBy asked ws ≡ Accepted (registers ws) (pairCount ws)
+  pub none-accepted : firstFault (checksBy asked ws) ≡ None → verdictBy asked ws ≡ Accepted (registers ws) (pairCount ws)
   unfolding judged verdictBy
   none-accepted e = ap (judged ws) e
 
