@@ -62,6 +62,7 @@ pairMeanings =
     ∷ (15, " a delay is above 1000000 picoseconds\n")
     ∷ (16, " a least delay is above its greatest\n")
     ∷ (19, " a least delay is below the hold of its capture register\n")
+    ∷ (20, " pairs have to rise by launch, then capture: convert_list orders them\n")
     ∷ []
 
 unfoldable pub pairMeaning : ℕ → List ℕ

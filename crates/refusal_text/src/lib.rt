@@ -60,6 +60,11 @@ fn put_pair_meaning(text: &mut [u8], at: usize, number: u32) -> usize
             at,
             b" a least delay is below the hold of its capture register\n",
         ),
+        20 => put_bytes(
+            text,
+            at,
+            b" pairs have to rise by launch, then capture: convert_list orders them\n",
+        ),
         _ => put_call_meaning(text, at, number),
     }
 }

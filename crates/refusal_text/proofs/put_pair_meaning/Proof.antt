@@ -7,12 +7,12 @@ use borrow.Author.Needs.{needs}
 use Rattle.refusal_text.proofs.put_pair_meaning.Statement.{statement}
 use Rattle.refusal_text.proofs.put_pair_meaning.Tie as tie
 
-others : tie.Need-returns-5
+others : tie.Need-returns-6
 unfolding pairMeaning
 others c =
     let r = c .before .before .before .before .match .rest in
     others-said pairMeanings _ (c .before .before .before .before .before .before .args .number)
-    (r .0 .0 .0 .1, (r .0 .0 .1, (r .0 .1, (r .1, tt))))
+    (r .0 .0 .0 .0 .1, (r .0 .0 .0 .1, (r .0 .0 .1, (r .0 .1, (r .1, tt)))))
     (c .before .before .put-call-meaning .ensures) (omega arith)
 
 pub put-pair-meaning-spec : {M : Type 1} → statement M
@@ -21,6 +21,7 @@ put-pair-meaning-spec =
     tie.close
     (tie.spec
     (λ c. search needs) (λ c κs. search needs) (λ c. search needs) (λ c κs. search needs) (λ c. search needs) (λ c κs. search needs)
-    (λ c. search needs) (λ c κs. search needs) (λ c κs. search needs) (λ c. search needs) (λ c. search (needs, put-as pairMeaning wordsWidth))
-    (λ c. search needs) (λ c. search (needs, put-as pairMeaning wordsWidth)) (λ c. search needs) (λ c. search (needs, put-as pairMeaning wordsWidth))
-    (λ c. search needs) (λ c. search (needs, put-as pairMeaning wordsWidth)) (λ c. search needs) others)
+    (λ c. search needs) (λ c κs. search needs) (λ c. search needs) (λ c κs. search needs) (λ c κs. search needs) (λ c. search needs)
+    (λ c. search (needs, put-as pairMeaning wordsWidth)) (λ c. search needs) (λ c. search (needs, put-as pairMeaning wordsWidth)) (λ c. search needs)
+    (λ c. search (needs, put-as pairMeaning wordsWidth)) (λ c. search needs) (λ c. search (needs, put-as pairMeaning wordsWidth)) (λ c. search needs)
+    (λ c. search (needs, put-as pairMeaning wordsWidth)) (λ c. search needs) others)
