@@ -20,7 +20,7 @@ use Rattle.refusals.specs.declared.Fault.the-variants.{None, At}
 use Rattle.refusals.proofs.ReplyLaws.{answered-done, numbers-none, numbers-done, told-refusal, first-refused}
 use Rattle.list_format.specs.Lists.{registers, pairCount, needsOf, differ}
 use Rattle.list_format.specs.Read.{numbersOf, readPlaces, readChecks, reading, readReply}
-use Rattle.list_format.specs.Write.{givenCount, wordsOf, endPlace, countChecks, givenBody, writeChecks, GivenIn, writing, writeReply}
+use Rattle.list_format.specs.Write.{givenCount, wordsOf, endPlace, countChecks, givenBody, writeChecks, GivenIn, writingBy, writing, writeReply}
 use Rattle.list_format.specs.RoundTrip.{ReadAs, WrittenAs}
 use Rattle.list_format.specs.declared.Reading.{Reading}
 use Rattle.list_format.specs.declared.Reading.the-variants.{Read, Refused}
@@ -187,16 +187,16 @@ module _ {n : ℕ} {xs ys now : List ℕ} {r : Writing} (a : WrittenAs n xs ys (
     unfolding writeReply
     given = rw e at answer
 
-    pass : firstFault (writeChecks n xs ys maxWords) ≡ None
-    unfolding writing
-    pass = numbers-none (firstFault (writeChecks n xs ys maxWords)) (done ((endPlace n xs ys + 1) ∷ []) (wordsOf n xs ys)) given
+    pass : firstFault (writeChecks true n xs ys maxWords) ≡ None
+    unfolding writingBy
+    pass = numbers-none (firstFault (writeChecks true n xs ys maxWords)) (done ((endPlace n xs ys + 1) ∷ []) (wordsOf n xs ys)) given
 
     within : GivenIn n xs ys
-    within = given-in n xs ys maxWords pass
+    within = given-in true n xs ys maxWords pass
 
     written : writing n xs ys maxWords ≡ done ((endPlace n xs ys + 1) ∷ []) (wordsOf n xs ys)
-    unfolding writing
-    written = answered-done (writeChecks n xs ys maxWords) (done ((endPlace n xs ys + 1) ∷ []) (wordsOf n xs ys)) pass
+    unfolding writingBy
+    written = answered-done (writeChecks true n xs ys maxWords) (done ((endPlace n xs ys + 1) ∷ []) (wordsOf n xs ys)) pass
 
     count-is : count ≡ endPlace n xs ys + 1
     unfolding replyOf
@@ -242,9 +242,9 @@ zeros-lent k j h = rw (zeros-front k j h) (sym (zeros-size k))
 
 -- too many registers are refused before the needs are looked at
 many : (n : ℕ) (xs ys : List ℕ) → maxRegisters < n → writing n xs ys maxWords ≡ refused (cond (differ (length xs % 4) 0) 11 12) 0
-unfolding writing orCheck faultAfter
+unfolding writingBy orCheck faultAfter
 many n xs ys h =
-    first-refused (countChecks n (length xs) (length ys)) (givenBody n xs ys (givenCount xs) maxWords)
+    first-refused (countChecks n (length xs) (length ys)) (givenBody true n xs ys (givenCount xs) maxWords)
     (done ((endPlace n xs ys + 1) ∷ []) (wordsOf n xs ys))
     (rw (ne-eqb n 0 (λ e. omega arith), lt-ltb maxRegisters n h) (go (differ (length xs % 4) 0)))
   where

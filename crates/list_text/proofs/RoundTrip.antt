@@ -16,6 +16,7 @@ use Rattle.buffers.proofs.RunLaws.{run-length, run-most}
 use Rattle.buffers.proofs.PadLaws.{run-same, zeros-size, zero-at}
 use Rattle.words.specs.Word.{kindNeeds, kindOf}
 use Rattle.words.specs.Bytes.{byteBits, toWords, toBytes}
+use Rattle.ordering.specs.Order.{Ascends}
 use Rattle.refusals.specs.Reply.{done, told}
 use Rattle.refusals.proofs.CheckLaws.{pass-both}
 use Rattle.refusals.proofs.ReplyLaws.{answered-done, one-passes}
@@ -24,7 +25,7 @@ use Rattle.list_format.specs.Lists.{placeBy, writtenAt, listChecks, IsAccepted}
 use Rattle.list_format.specs.Read.{fourOf, numbersOf, readPlaces, readChecks, reading}
 use Rattle.list_format.specs.Write.{givenNeeds}
 use Rattle.list_format.proofs.NeedsLaws.{need-zero, needs-length}
-use Rattle.list_format.proofs.ListLaws.{ListIn, accepted-in, accepted→none, needs-within}
+use Rattle.list_format.proofs.ListLaws.{ListIn, list-ascends, accepted-in, accepted→none, needs-within}
 use Rattle.list_format.proofs.ReadBack.{numbers-length, count-is, number-at, hold-is, setup-is, read-back}
 use Rattle.list_format.proofs.WriteBack.{given-none, given-all}
 use Rattle.text_pieces.specs.Pieces.{number, space, newline}
@@ -261,23 +262,27 @@ module _ (ws : List ℕ) (l : ListIn ws) where
     unfolding rest
     numbers-are = drop-at (run (twoAt ws) lines) (numbersOf ws) (2 * lines) two-size
 
-    made-with : needsGiven (2 * lines) (registers ws) rest ≡ needsOf ws → made text ≡ listBytes (toBytes ws (length ws))
+    made-with : Ascends (writtenAt ws) (pairCount ws) → needsGiven (2 * lines) (registers ws) rest ≡ needsOf ws
+        → made text ≡ listBytes (toBytes ws (length ws))
     unfolding madeOf told
-    made-with e =
-        rw (scan-is, stored-is, numbers-are, e, read-back ws l maxWords words-fit)
+    made-with rise e =
+        rw (scan-is, stored-is, numbers-are, e, read-back ws l true (λ z. rise) maxWords words-fit)
 
   -- without lines of needs, and with one for each register
-  pub made-is : made (textOf (registers ws) (numbersOf ws) (needsOf ws)) ≡ listBytes (toBytes ws (length ws))
+  pub made-is : Ascends (writtenAt ws) (pairCount ws)
+      → made (textOf (registers ws) (numbersOf ws) (needsOf ws)) ≡ listBytes (toBytes ws (length ws))
   unfolding text rest needsGiven
-  made-is = go (noNeeds (needsOf ws)) refl
+  made-is rise = go (noNeeds (needsOf ws)) refl
     where
       go : (b : Bool) → noNeeds (needsOf ws) ≡ b → made (textOf (registers ws) (numbersOf ws) (needsOf ws)) ≡ listBytes (toBytes ws (length ws))
       go true e =
-          made-with 0 (sym (given-none (registers ws) (needsOf ws) e)) (omega arith) (zeros-are (needsOf ws) (2 * registers ws) (needs-length ws) e)
+          made-with 0 (sym (given-none (registers ws) (needsOf ws) e)) (omega arith) rise
+          (zeros-are (needsOf ws) (2 * registers ws) (needs-length ws) e)
       go false e =
           let n = registers ws in
           let some : eqb (2 * n) 0 ≡ false = ne-eqb (2 * n) 0 (λ z. omega (arith, l .head .some)) in
-          made-with n (sym (given-all n (needsOf ws) e)) (omega arith) (rw some (take-at (needsOf ws) (numbersOf ws) (2 * n) (needs-length ws)))
+          made-with n (sym (given-all n (needsOf ws) e)) (omega arith) rise
+          (rw some (take-at (needsOf ws) (numbersOf ws) (2 * n) (needs-length ws)))
 
 -- what is shown of an accepted list
 shown-is : (ws : List ℕ) → IsAccepted ws
@@ -311,4 +316,5 @@ unfolding bytesOf
 shown-made bs small a =
     let l = accepted-in (listOf bs) a in
     let both = counts bs (omega (arith, l .head .size)) in
-    rw (shown-is (listOf bs) a) (made-is (listOf bs) l ∙ ap listBytes (list-back bs (both .0) (both .1) small))
+    let rise = list-ascends (listOf bs) (accepted→none (listOf bs) a .none) in
+    rw (shown-is (listOf bs) a) (made-is (listOf bs) l rise ∙ ap listBytes (list-back bs (both .0) (both .1) small))

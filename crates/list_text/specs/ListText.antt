@@ -92,7 +92,7 @@ pub data Product : Type 0 where
   errorLine : List ℕ → Product
 
 -- the number of the text, counted from 1, that ends what a refusal is of, and 0 if it is of the whole, where the text has so many needs:
--- 13 is of the needs of a register, 14, 15, 16 and 19 are of a pair, and their place is its index
+-- 13 is of the needs of a register, 14, 15, 16, 19 and 20 are of a pair, and their place is its index
 unfoldable pub lastOf : ℕ → ℕ → ℕ → ℕ
 lastOf needs number place =
     cond (leb maxPairs place) 0 (cond (eqb number 13) (2 * place + 3) (cond (ltb number 14) 0 (needs + 4 * place + 5)))
