@@ -35,7 +35,7 @@ whyCallChecks n m period room spare =
     ∷ (ltb spare (scratchPlaces n m), 1, 0)
     ∷ []
 
--- 11 to 19, then 3, 2, 1
+-- 11 to 20, then 3, 2, 1
 abbrev pub whyChecks : List ℕ → ℕ → ℕ → ℕ → List Check
 whyChecks ws period room spare = listChecks ws ++ whyCallChecks (registers ws) (pairCount ws) period room spare
 

@@ -106,7 +106,7 @@ timingChecks n t s =
     ∷ (someAbove s, 3, 0)
     ∷ []
 
--- 11 to 19, then 3
+-- 11 to 20, then 3
 abbrev pub checkChecks : List ℕ → ℕ → List ℕ → List Check
 checkChecks ws t s = listChecks ws ++ timingChecks (registers ws) t s
 

@@ -189,7 +189,7 @@ fn call_fault(n: usize, period: u32, timings: &[u32]) -> Fault
         .or(above_limit(timings), 3, 0)
 }
 
-// Checks a schedule at a period. Refusals 11 to 19 of the list, then 3: the period or a timing out of range, or not a
+// Checks a schedule at a period. Refusals 11 to 20 of the list, then 3: the period or a timing out of range, or not a
 // timing for each register.
 pub fn check(words: &[u32], period: u32, timings: &[u32]) -> Checking
     ensures { λ r. ⌜ CheckedAs (now (words .entry)) period (now (timings .entry)) r ⌝ }

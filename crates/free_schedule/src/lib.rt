@@ -64,7 +64,7 @@ fn settle(words: &[u32], n: usize, count: usize, answer: &mut [u32]) -> FreeAnsw
     answer_by(words, n, count, &mut before, answer)
 }
 
-// Refusals 11 to 19 of the list, then 2: an answer buffer of fewer than n places. Else the common and the free period
+// Refusals 11 to 20 of the list, then 2: an answer buffer of fewer than n places. Else the common and the free period
 // are returned, and the free schedule fills the first n places; later places keep their contents.
 pub fn free(words: &[u32], answer: &mut [u32]) -> FreeAnswer
     ensures { λ r. ⌜ FreeAs (now (words .entry)) (now (answer .entry)) (now (answer .exit)) r ⌝ }

@@ -24,7 +24,7 @@ planCallChecks n m room spare =
     ∷ (ltb spare (scratchPlaces n m), 1, 0)
     ∷ []
 
--- 11 to 19, then 2, 1
+-- 11 to 20, then 2, 1
 abbrev pub planChecks : List ℕ → ℕ → ℕ → List Check
 planChecks ws room spare = listChecks ws ++ planCallChecks (registers ws) (pairCount ws) room spare
 

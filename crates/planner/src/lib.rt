@@ -118,7 +118,7 @@ fn show(words: &[u32], n: usize, m: usize, answer: &mut [u32], scratch: &mut [u3
     planned
 }
 
-// Refusals 11 to 19 of the list, then 2 and 1. Else the three periods and the offset; the free timings fill the first n
+// Refusals 11 to 20 of the list, then 2 and 1. Else the three periods and the offset; the free timings fill the first n
 // places of the answer buffer, the split's timings the next n, and 6n + 4m places of scratch are left zero.
 // All later places keep their contents; a refusal changes nothing.
 pub fn plan(words: &[u32], answer: &mut [u32], scratch: &mut [u32]) -> Planning

@@ -17,7 +17,7 @@ use Rattle.refusals.specs.Reply.{Reply, Outcome, done, replyOf, unless, answere
 use Rattle.list_format.specs.Lists.{listChecks, headChecks, needChecks, blockChecks, pairChecks, endChecks, pairsChecks, bodyChecks}
 use Rattle.list_format.specs.Lists.{registers, pairCount, needWords, needsOf, noNeeds, pairPlace, placeBy, pairs, word}
 use Rattle.list_format.specs.Read.{reading, readReply}
-use Rattle.list_format.specs.Write.{writing, writeReply, countChecks, givenNeedChecks, givenChecks, givenPairs, givenBody, writeChecks}
+use Rattle.list_format.specs.Write.{writingBy, writing, writeReply, countChecks, givenNeedChecks, givenChecks, givenPairs, givenBody, writeChecks}
 use Rattle.list_format.specs.Write.{givenCount, givenNeeds}
 use Rattle.list_format.specs.RoundTrip.{ReadAs, WrittenAs}
 use Rattle.list_format.specs.declared.Reading.{Reading}
@@ -95,12 +95,12 @@ list-numbered ws =
     let n = registers ws in
     let m = pairCount ws in
     let needs = needWords ws in
-    append-numbered (headChecks (word ws 0) (word ws 1) (length ws)) (bodyChecks ws n m) refl
-    (append-numbered (blockChecks ws needs) (pairsChecks ws n m)
+    append-numbered (headChecks (word ws 0) (word ws 1) (length ws)) (bodyChecks true ws n m) refl
+    (append-numbered (blockChecks ws needs) (pairsChecks true ws n m)
     (append-numbered (eachCheck (needChecks ws) 0 needs) ((ltb 0 needs && noNeeds (needsOf ws), 18, 1) ∷ [])
     (each-numbered (needChecks ws) (λ r. refl) 0 needs) refl)
-    (append-numbered (eachCheck (pairChecks ws n) 0 m) (endChecks ws (pairPlace ws m))
-    (each-numbered (pairChecks ws n) (λ k. refl) 0 m) refl))
+    (append-numbered (eachCheck (pairChecks true ws n) 0 m) (endChecks ws (pairPlace ws m))
+    (each-numbered (pairChecks true ws n) (λ k. refl) 0 m) refl))
 
 -- the checks of the list, then those of the call
 list-then : (ws : List ℕ) (cs : List Check) (o : Outcome) → numbered cs ≡ true → Tellable (replyOf o)
@@ -112,15 +112,15 @@ unfolding reading numbered
 read-told ws room = list-then ws _ _ refl (done-told _ _ (omega arith))
 
 pub write-told : (n : ℕ) (xs ys : List ℕ) (room : ℕ) → Tellable (replyOf (writing n xs ys room))
-unfolding writing numbered
+unfolding writingBy numbered
 write-told n xs ys room =
     let m = givenCount xs in
-    answered-told (writeChecks n xs ys room) _
-    (append-numbered (countChecks n (length xs) (length ys)) (givenBody n xs ys m room) refl
-    (append-numbered (eachCheck (givenNeedChecks ys) 0 n) (givenPairs n xs ys m room)
+    answered-told (writeChecks true n xs ys room) _
+    (append-numbered (countChecks n (length xs) (length ys)) (givenBody true n xs ys m room) refl
+    (append-numbered (eachCheck (givenNeedChecks ys) 0 n) (givenPairs true n xs ys m room)
     (each-numbered (givenNeedChecks ys) (λ r. refl) 0 n)
-    (append-numbered (eachCheck (givenChecks n xs ys) 0 m) ((ltb room (placeBy (givenNeeds n ys) m + 1), 2, 0) ∷ [])
-    (each-numbered (givenChecks n xs ys) (λ k. refl) 0 m) refl)))
+    (append-numbered (eachCheck (givenChecks true n xs ys) 0 m) ((ltb room (placeBy (givenNeeds n ys) m + 1), 2, 0) ∷ [])
+    (each-numbered (givenChecks true n xs ys) (λ k. refl) 0 m) refl)))
     (done-told _ _ (omega arith))
 
 few : (r : Checking) → length (checkValues r) ≤ valuePlaces

@@ -2,6 +2,7 @@
 use mathlib.Core.List.{map}
 use mathlib.Core.Path.{_≡_, refl}
 use Rattle.timing.specs.Rules.{admissible}
+use Rattle.ordering.specs.Order.{notAbove}
 use Rattle.search.specs.Search.{firstFrom, least}
 use Rattle.buffers.specs.Run.{run}
 use Rattle.words.specs.Word.{total}
@@ -18,7 +19,7 @@ use Rattle.report.specs.Report.{periodsLine, registerLines, report}
 use Rattle.report.specs.Printed.{printedTable}
 
 pub printed-shown : map (λ p. report (p .bytes)) printedTable ≡ map (λ p. letters (p .text)) printedTable
-unfolding printedTable admissible firstFrom least run total orCheck faultAfter eachCheck unless
+unfolding printedTable admissible notAbove firstFrom least run total orCheck faultAfter eachCheck unless
     needWordsBy holdAt setupAt pairAt pairsFrom noNeeds
     relax round rounds freeAt freeWorks common freePeriod freeSchedule works splits firstOf firstSplit
     splitWorks twoWorks twoPeriod twoOffset twoSplit twoTimings planning

@@ -28,7 +28,7 @@ splitCallChecks n m period offset room spare =
     ∷ (ltb spare (scratchPlaces n m), 1, 0)
     ∷ []
 
--- 11 to 19, then 3, 2, 1
+-- 11 to 20, then 3, 2, 1
 abbrev pub splitChecks : List ℕ → ℕ → ℕ → ℕ → ℕ → List Check
 splitChecks ws period offset room spare = listChecks ws ++ splitCallChecks (registers ws) (pairCount ws) period offset room spare
 
