@@ -11,9 +11,10 @@
  *
  * Refusals of the list: 11 count of words, 12 head, 13 kind of a word, spare bits or a need above 9,999, 14 register,
  * 15 delay, 16 least delay above greatest, 17 end word, 18 a block of needs that are all zero, 19 least delay below the
- * hold of its capture register. Of the call: 3 period, offset or timings, 2 `answer` too short, 1 `scratch` too short.
- * The list is checked first: head, needs (13, then 18), pair by pair (13, 14, 15, 16, 19), end; then 3, 2, 1. The first
- * that fits is returned.
+ * hold of its capture register, 20 a pair that is not above the one before it by launch register, then capture.
+ * Of the call: 3 period, offset or timings, 2 `answer` too short, 1 `scratch` too short.
+ * The list is checked first: head, needs (13, then 18), pair by pair (13, 14, 15, 16, 19, 20), end; then 3, 2, 1. The
+ * first that fits is returned.
  *
  * Status and reply tell one answer of the job, and all that the job promises of it is proved of the C function too:
  * a plan that nobody beats, a list that reads back as it was written, a check that passes the admissible schedules
@@ -63,7 +64,7 @@ extern "C" {
 
 /* Reads a list into plain numbers.
  * Values: n, m. The first 4m places of `answer` hold launch, capture, least and greatest of each pair, the next 2n hold
- * and setup of each register, zeros for a list without needs; later places are kept. Refusals: 11 to 19; 2 for fewer than
+ * and setup of each register, zeros for a list without needs; later places are kept. Refusals: 11 to 20; 2 for fewer than
  * 4m + 2n places. */
 uint32_t darnerflax_read(const uint32_t *words, size_t words_len,
                          uint32_t *answer, size_t answer_len,
@@ -73,8 +74,8 @@ uint32_t darnerflax_read(const uint32_t *words, size_t words_len,
  * register: hold, setup. Needs that are all zero are written without a block.
  * Value: the count of words, 3m + 2, or 3m + 2 + n with a block, which fill the first places of `answer`; later places are
  * kept. Refusals: 11 if the numbers are not four for each pair; 12; 11 if the needs are not 2n; 13 for a need above 9,999,
- * with the register as place; then pair by pair 14, 15, 16, 19, with the pair's index as place; 2 for fewer places than
- * there are words. There is no 18. */
+ * with the register as place; then pair by pair 14, 15, 16, 19, 20, with the pair's index as place; 2 for fewer places
+ * than there are words. There is no 18. */
 uint32_t darnerflax_write(uint32_t n,
                           const uint32_t *numbers, size_t numbers_len,
                           const uint32_t *needs, size_t needs_len,
@@ -88,7 +89,7 @@ uint32_t darnerflax_write(uint32_t n,
  * The margin of a rule is its right side minus its left side: 0 where it is just met, below 0 where it is broken. It is
  * told in two's complement and is at most 517,119,488 either way:
  *   int64_t margin = (int64_t)reply[1];
- * Refusals: 11 to 19; 3 for a period outside 1 to 1,009,999, a timing above 516,109,489 or not exactly n timings. */
+ * Refusals: 11 to 20; 3 for a period outside 1 to 1,009,999, a timing above 516,109,489 or not exactly n timings. */
 uint32_t darnerflax_check(const uint32_t *words, size_t words_len,
                           uint32_t period,
                           const uint32_t *timings, size_t timings_len,
@@ -96,7 +97,7 @@ uint32_t darnerflax_check(const uint32_t *words, size_t words_len,
 
 /* The common and the free period and the least free schedule.
  * Values: common, free. The schedule fills the first n places of `answer`; later places are kept.
- * Refusals: 11 to 19; 2 for fewer than n places. */
+ * Refusals: 11 to 20; 2 for fewer than n places. */
 uint32_t darnerflax_free(const uint32_t *words, size_t words_len,
                          uint32_t *answer, size_t answer_len,
                          uint64_t reply[DARNERFLAX_REPLY]);
@@ -104,7 +105,7 @@ uint32_t darnerflax_free(const uint32_t *words, size_t words_len,
 /* The first split at a period and an offset, in register order, early before late.
  * Value: 1 if one works, its timings (0 or the offset) then fill the first n places of `answer`; 0 if none works,
  * `answer` is then kept whole. Either way the first 6n + 4m places of `scratch` are left zero; later places of both
- * are kept. Refusals: 11 to 19; 3 for a period outside 1 to 1,009,999 or an offset above 1,009,999; 2 for fewer than
+ * are kept. Refusals: 11 to 20; 3 for a period outside 1 to 1,009,999 or an offset above 1,009,999; 2 for fewer than
  * n places; 1 for fewer than 6n + 4m places of scratch. */
 uint32_t darnerflax_split(const uint32_t *words, size_t words_len,
                           uint32_t period, uint32_t offset,
@@ -115,7 +116,7 @@ uint32_t darnerflax_split(const uint32_t *words, size_t words_len,
 /* The full plan.
  * Values: the common, the free and the two-timing period, and the offset. The free timings fill the first n places of
  * `answer`, the timings of the first split (0 or the offset) the next n. The first 6n + 4m places of `scratch` are
- * left zero; later places of both are kept. Refusals: 11 to 19; 2 for fewer than 2n places; 1 for fewer than 6n + 4m
+ * left zero; later places of both are kept. Refusals: 11 to 20; 2 for fewer than 2n places; 1 for fewer than 6n + 4m
  * places of scratch. */
 uint32_t darnerflax_plan(const uint32_t *words, size_t words_len,
                          uint32_t *answer, size_t answer_len,
@@ -132,7 +133,7 @@ uint32_t darnerflax_plan(const uint32_t *words, size_t words_len,
  * choice is where the chain stands; the other end then has the opposite choice, from which the next step goes on. Which
  * chains are shown, of several, is left open.
  * Either way the first 6n + 4m places of `scratch` are left zero; later places are kept. Refusals, also where some split
- * works: 11 to 19; 3 for a period outside 1 to 1,009,999; 2 for fewer than 4n places; 1 for fewer than 6n + 4m places of
+ * works: 11 to 20; 3 for a period outside 1 to 1,009,999; 2 for fewer than 4n places; 1 for fewer than 6n + 4m places of
  * scratch. */
 uint32_t darnerflax_why_not(const uint32_t *words, size_t words_len,
                             uint32_t period,
