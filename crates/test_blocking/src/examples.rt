@@ -1,5 +1,6 @@
 // Worked examples, and what is refused.
 use blocking::Reason;
+use test_kit::lists::TWICE;
 use test_kit::lists::needy;
 use test_kit::places::DIRT;
 use test_kit::places::front;
@@ -74,10 +75,19 @@ fn scratch_short(label: &[u8], period: u32) {
     refused(label, 8, period, &mut answer, &mut scratch);
 }
 
+// 0-1 twice over, with the faults of the calls that follow.
+fn twice() {
+    let mut answer = [DIRT; 7];
+    let mut scratch = [DIRT; 19];
+    show::text(b"0-1 twice: ");
+    show_reason(blocking::why_not(&TWICE, 0, &mut answer, &mut scratch));
+}
+
 // In the order in which the refusals count: the first calls have the faults of the later ones too. No split of P works at 6; at 7 one does.
 pub fn refusals() {
     both_short(b"no words: ", 0, 0);
     both_short(b"one word less: ", 7, 0);
+    twice();
     both_short(b"period 0: ", 8, 0);
     both_short(b"period 1010000: ", 8, 1_010_000);
     both_short(b"7 places and 19 of scratch at 6: ", 8, 6);

@@ -1,6 +1,7 @@
 // Lists of 512 registers: a path along which one register after the other is forced late, so that the chains are long; and random lists
 // of the most pairs at the two-timing period and one less.
 use crate::chains;
+use crate::order;
 use blocking::Reason;
 use planner::Planning;
 use test_kit::largest;
@@ -9,10 +10,10 @@ use test_kit::places::DIRT;
 use test_kit::places::front;
 use test_kit::random;
 use test_kit::show;
-ghost use Prim.Native.Nat.{_+_, _<_, _≤_};
+ghost use Prim.Native.Nat.{_<_, _≤_};
 ghost use Rattle.timing.specs.Limits.{maxRegisters, maxPairs};
 
-// The links of the path, from register 0 to the last but one.
+// The links of the path, which leaves out register 0.
 const LINKS: usize = largest::TIMINGS - 2;
 
 // The two pairs after them, which are slower than the period.
@@ -27,38 +28,38 @@ const ANSWER: usize = 4 * largest::TIMINGS;
 const PERIOD: u32 = 8;
 
 // A link between register r and the next: a late launch forces a late capture by setup, or a late capture a late launch by hold.
-fn link(r: u32, by_hold: bool, at: usize, numbers: &mut [u32])
+// Along the list the next is forced, against it register r.
+fn link(r: u32, by_hold: bool, against: bool, at: usize, numbers: &mut [u32])
     requires { ⌜ r < maxRegisters ⌝ }
 {
-    if by_hold {
-        random::put(numbers, at, r + 1, r, 0, PERIOD - 1);
+    let least = if by_hold { 0 } else { PERIOD };
+    let greatest = if by_hold { PERIOD - 1 } else { PERIOD };
+    if by_hold == against {
+        random::put(numbers, at, r, r + 1, least, greatest);
         return;
     }
-    random::put(numbers, at, r, r + 1, PERIOD, PERIOD);
-}
-
-// The place of link k in the list: k, or from the other end.
-fn place(k: usize, against: bool) -> usize
-    requires { ⌜ k + 2 < maxRegisters ⌝ }
-    ensures { λ r. ⌜ r + 2 < maxRegisters ⌝ }
-{
-    if against { LINKS - 1 - k } else { k }
+    random::put(numbers, at, r + 1, r, least, greatest);
 }
 
 fn links(by_hold: bool, against: bool, numbers: &mut [u32]) {
     let mut k = 0;
     while k < LINKS {
-        link(k as u32, by_hold, 4 * place(k, against), numbers);
+        link(k as u32 + 1, by_hold, against, 4 * k, numbers);
         k += 1;
     }
 }
 
-// The links, and two pairs from the last register of the path: to the register that is left, and to register 0.
+// The links of a path from register 1 to the last, or the other way; then two pairs from where it ends: to register 0, which is left,
+// and to where the path starts. They are moved down to where their launch register has them.
 fn path(by_hold: bool, against: bool, numbers: &mut [u32]) {
-    let last = LINKS as u32;
+    let last = largest::LAST_REGISTER;
+    let start = if against { last } else { 1 };
+    let end = if against { 1 } else { last };
     links(by_hold, against, numbers);
-    random::put(numbers, 4 * LINKS, last, last + 1, PERIOD, PERIOD + 1);
-    random::put(numbers, 4 * LINKS + 4, last, 0, PERIOD, PERIOD + 1);
+    random::put(numbers, 4 * LINKS, end, 0, PERIOD, PERIOD + 1);
+    random::put(numbers, 4 * LINKS + 4, end, start, PERIOD, PERIOD + 1);
+    order::sink(LINKS, numbers);
+    order::sink(LINKS + 1, numbers);
 }
 
 // How a call fared, with the lengths of its chains.

@@ -4,6 +4,7 @@
 mod chains;
 mod examples;
 mod large;
+mod order;
 mod small;
 
 fn main() {

@@ -16,8 +16,8 @@ const LEAST: [u32; 10] = [0, 0, 1, 0, 1, 2, 0, 1, 2, 3];
 
 const GREATEST: [u32; 10] = [0, 1, 1, 2, 2, 2, 3, 3, 3, 3];
 
-// The pairs of two registers with such delays.
-const KINDS: u32 = 40;
+// No pair, or one of these delays.
+const CHOICES: u32 = 11;
 
 // How many random lists there are.
 const LISTS: u32 = 500;
@@ -74,30 +74,43 @@ fn periods(words: &[u32], numbers: &[u32], needs: &[u32], n: u32, m: usize, befo
     tally
 }
 
-// The pair of a kind of n registers, stored from `at` on.
-fn pair(kind: u32, n: u32, at: usize, numbers: &mut [u32])
+// The pair of n registers with a key, stored from `at` on, by a choice: none, or its delays. The answer is how many it is.
+fn pair(choice: u32, key: u32, n: u32, at: usize, numbers: &mut [u32]) -> usize
     requires { ⌜ 1 ≤ n ⌝ }
+    ensures { λ r. ⌜ r ≤ 1 ⌝ }
 {
-    let delay = (kind / 4 % 10) as usize;
-    random::put(
-        numbers,
-        at,
-        kind % n,
-        kind / 2 % n,
-        LEAST[delay],
-        GREATEST[delay],
-    );
+    if choice == 0 {
+        return 0;
+    }
+    let delay = ((choice - 1) % 10) as usize;
+    random::put(numbers, at, key / n, key % n, LEAST[delay], GREATEST[delay]);
+    1
 }
 
-// The list of n registers and the first m of two pairs.
-fn small(n: u32, m: usize, kind: u32, other: u32, before: Tally) -> Tally
-    requires { ⌜ (1 ≤ n) × (m ≤ maxPairs) ⌝ }
+// The pairs of list v of n registers, by its digits in base eleven: one for each key. The answer is how many there are.
+fn chosen(n: u32, keys: usize, v: u32, numbers: &mut [u32]) -> usize
+    requires { ⌜ (1 ≤ n) × (keys ≤ maxPairs) ⌝ }
+    ensures { λ r. ⌜ r ≤ maxPairs ⌝ }
 {
-    let mut numbers = [0u32; 8];
+    let mut rest = v;
+    let mut m = 0;
+    let mut key = 0;
+    while key < keys {
+        m += pair(rest % CHOICES, key as u32, n, 4 * m, numbers);
+        rest = rest / CHOICES;
+        key += 1;
+    }
+    m
+}
+
+// List v of n registers at every period.
+fn small(n: u32, keys: usize, v: u32, before: Tally) -> Tally
+    requires { ⌜ (1 ≤ n) × (keys ≤ maxPairs) ⌝ }
+{
+    let mut numbers = [0u32; 16];
     let needs = [0u32; 4];
-    let mut words = [0u32; 8];
-    pair(kind, n, 0, &mut numbers);
-    pair(other, n, 4, &mut numbers);
+    let mut words = [0u32; 14];
+    let m = chosen(n, keys, v, &mut numbers);
     let count = needy(
         n,
         front(&numbers, 4 * m),
@@ -107,29 +120,15 @@ fn small(n: u32, m: usize, kind: u32, other: u32, before: Tally) -> Tally
     periods(front(&words, count), &numbers, &needs, n, m, before)
 }
 
-// All lists of n registers and two pairs, the first of this kind.
-fn others(n: u32, kind: u32, before: Tally) -> Tally
-    requires { ⌜ 1 ≤ n ⌝ }
+// All lists of n registers.
+fn every(n: u32, keys: usize, lists: u32) -> Tally
+    requires { ⌜ (1 ≤ n) × (keys ≤ maxPairs) ⌝ }
 {
-    let mut tally = before;
-    let mut other: u32 = 0;
-    while other < KINDS {
-        tally = small(n, 2, kind, other, tally);
-        other += 1;
-    }
-    tally
-}
-
-// All lists of n registers and up to two pairs.
-fn every(n: u32) -> Tally
-    requires { ⌜ 1 ≤ n ⌝ }
-{
-    let mut tally = small(n, 0, 0, 0, Tally::none());
-    let mut kind: u32 = 0;
-    while kind < KINDS {
-        tally = small(n, 1, kind, 0, tally);
-        tally = others(n, kind, tally);
-        kind += 1;
+    let mut tally = Tally::none();
+    let mut v: u32 = 0;
+    while v < lists {
+        tally = small(n, keys, v, tally);
+        v += 1;
     }
     tally
 }
@@ -181,12 +180,12 @@ fn tell(label: &[u8], t: Tally) {
 
 pub fn lists() {
     tell(
-        b"one register, up to two pairs, at every period: ",
-        every(1),
+        b"every list of one register, delays to 3, at every period: ",
+        every(1, 1, CHOICES),
     );
     tell(
-        b"two registers, up to two pairs, at every period: ",
-        every(2),
+        b"every list of two registers, delays to 3, at every period: ",
+        every(2, 4, CHOICES * CHOICES * CHOICES * CHOICES),
     );
     tell(b"random lists at every period: ", many(0));
     tell(b"the same with needs: ", many(NEED));

@@ -284,6 +284,73 @@ pub fn kinds() {
     read(b"end with a wrong sum: ", &sum);
 }
 
+// Three pairs of two registers, each with delays 7/10, with the right head and end.
+fn three_pairs(label: &[u8], first: u32, second: u32, third: u32) {
+    let mut list = [
+        words::head_word(2, 3),
+        first,
+        0x6000_0007,
+        0x8000_000A,
+        second,
+        0x6000_0007,
+        0x8000_000A,
+        third,
+        0x6000_0007,
+        0x8000_000A,
+        0,
+    ];
+    list[10] = words::word_of(words::KIND_END, words::end_payload(&list, 10));
+    read(label, &list);
+}
+
+// Pairs that rise by launch, then capture, and pairs that do not: the same as the one before, below it by launch, below it by capture.
+pub fn orders() {
+    three_pairs(b"0-0, 0-1, 1-0: ", 0x4000_0000, 0x4000_0001, 0x4000_0400);
+    three_pairs(b"0-0, 0-1, 0-1: ", 0x4000_0000, 0x4000_0001, 0x4000_0001);
+    three_pairs(b"0-0, 1-0, 0-1: ", 0x4000_0000, 0x4000_0400, 0x4000_0001);
+    three_pairs(b"0-1, 0-0, 1-0: ", 0x4000_0001, 0x4000_0000, 0x4000_0400);
+    three_pairs(
+        b"0-1, 0-0, 2-0 of two: ",
+        0x4000_0001,
+        0x4000_0000,
+        0x4000_0800,
+    );
+    three_pairs(
+        b"0-1, 1-0, 1-2 of two: ",
+        0x4000_0001,
+        0x4000_0400,
+        0x4000_0402,
+    );
+}
+
+// The pair from register 0 to register 1 of two twice over, with the needs of both, the hold of register 1 being 3; the second has
+// these delays, and so much is added to the sum.
+fn twice(label: &[u8], least: u32, greatest: u32, more: u32) {
+    let mut list = [
+        words::head_word(2, 2),
+        0xA000_0000,
+        0xA000_0003,
+        0x4000_0001,
+        0x6000_0007,
+        0x8000_000A,
+        0x4000_0001,
+        least,
+        greatest,
+        0,
+    ];
+    let end = words::word_of(words::KIND_END, words::end_payload(&list, 9));
+    list[9] = std::num::wrapping_add_u32(end, more);
+    read(label, &list);
+}
+
+// A pair that does not rise, after the other checks of a pair, before the sum.
+pub fn around_orders() {
+    twice(b"0-1 twice, 4/3: ", 0x6000_0004, 0x8000_0003, 0);
+    twice(b"0-1 twice, 2/4, hold 3: ", 0x6000_0002, 0x8000_0004, 0);
+    twice(b"0-1 twice, 3/4, hold 3: ", 0x6000_0003, 0x8000_0004, 0);
+    twice(b"the same, a wrong sum: ", 0x6000_0003, 0x8000_0004, 1);
+}
+
 // What the writer refuses.
 pub fn refused_writing() {
     let none = [0u32, 0, 0, 0];
@@ -298,7 +365,7 @@ pub fn refused_writing() {
     write(b"delay 1000001 in pair 1: ", 2, &delay, &none);
     let order = [0u32, 1, 4, 3];
     write(b"4/3 in pair 0: ", 2, &order, &none);
-    let four = [0u32, 1, 7, 10, 1, 0, 1, 3, 0, 0, 0, 5, 1, 1, 0, 5];
+    let four = [0u32, 0, 0, 5, 0, 1, 7, 10, 1, 0, 1, 3, 1, 1, 0, 5];
     write(b"four pairs in twelve places: ", 2, &four, &none);
 }
 
@@ -340,11 +407,11 @@ pub fn refused_holds() {
     write(
         b"hold 8 and least 7 in pair 1: ",
         2,
-        &[1u32, 0, 1, 3, 0, 1, 7, 10],
+        &[0u32, 0, 1, 3, 0, 1, 7, 10],
         &[0u32, 0, 8, 0],
     );
     write(b"4/3 and hold 8: ", 2, &[0u32, 1, 4, 3], &[0u32, 0, 8, 0]);
-    let three = [0u32, 1, 7, 10, 1, 0, 1, 3, 0, 0, 0, 5];
+    let three = [0u32, 0, 0, 5, 0, 1, 7, 10, 1, 0, 1, 3];
     write(b"three pairs and no needs: ", 2, &three, &[0u32, 0, 0, 0]);
     write(
         b"three pairs and needs in twelve places: ",
@@ -352,4 +419,23 @@ pub fn refused_holds() {
         &three,
         &[0u32, 0, 0, 1],
     );
+}
+
+// What the writer refuses of the order: the place is the pair's index.
+pub fn refused_orders() {
+    let none = [0u32, 0, 0, 0];
+    let same = [0u32, 0, 0, 5, 0, 1, 7, 10, 0, 1, 2, 4];
+    write(b"0-0, 0-1, 0-1, written: ", 2, &same, &none);
+    let launch = [1u32, 0, 1, 3, 0, 1, 7, 10];
+    write(b"1-0, 0-1, written: ", 2, &launch, &none);
+    write(
+        b"1-0, 0-1 7/10, hold 8, written: ",
+        2,
+        &launch,
+        &[0u32, 0, 8, 0],
+    );
+    let capture = [0u32, 1, 7, 10, 0, 0, 0, 5, 2, 0, 0, 5];
+    write(b"0-1, 0-0, 2-0 of two, written: ", 2, &capture, &none);
+    let four = [0u32, 0, 0, 5, 0, 1, 7, 10, 1, 0, 1, 3, 1, 0, 1, 3];
+    write(b"0-0, 0-1, 1-0, 1-0 in twelve places: ", 2, &four, &none);
 }

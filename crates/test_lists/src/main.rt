@@ -14,9 +14,12 @@ fn main() {
     examples::before_holds();
     examples::pairs();
     examples::kinds();
+    examples::orders();
+    examples::around_orders();
     examples::refused_writing();
     examples::refused_needs();
     examples::refused_holds();
+    examples::refused_orders();
     trips::small(b"random lists: ", 0, 0);
     trips::small(b"one word changed: ", 1, 0);
     trips::small(b"two words changed, the sum kept: ", 2, 0);

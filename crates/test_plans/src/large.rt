@@ -1,6 +1,7 @@
 // Plans of the largest size: 512 registers and 2,048 pairs.
 use planner::Planning;
 use test_kit::largest;
+use test_kit::lists::TWICE;
 use test_kit::lists::needy;
 use test_kit::places::front;
 use test_kit::random;
@@ -70,4 +71,6 @@ pub fn lists() {
         timing::MAX_NEED,
     );
     short(17);
+    show::text(b"0-1 twice: ");
+    planned(&TWICE);
 }

@@ -3,6 +3,7 @@ use checker::Checking;
 use checker::Rule;
 use checker::Smallest;
 use free_schedule::FreeAnswer;
+use test_kit::lists::TWICE;
 use test_kit::lists::list;
 use test_kit::lists::needy;
 use test_kit::places::front;
@@ -106,7 +107,7 @@ pub fn free_schedules() {
         &[0u32, 1, 9, 9, 1, 2, 9, 9, 2, 0, 3, 3],
     );
     free(b"0-0 0/5: ", 1, &[0u32, 0, 0, 5]);
-    free(b"0-1 twice: ", 2, &[0u32, 1, 7, 10, 0, 1, 2, 4]);
+    free(b"0-1 2/10: ", 2, &[0u32, 1, 2, 10]);
 }
 
 // P with hold 1 and setup 2 of register 0, hold 2 and setup 1 of register 1; and 0-1 10/10 with one need at a time.
@@ -219,4 +220,8 @@ pub fn refusals() {
     check(b"timing 516109489: ", 2, &p, 7, &[516_109_489u32, 0]);
     check(b"timing 516109490: ", 2, &p, 7, &[0u32, 516_109_490]);
     free(b"six registers in five places: ", 6, &[0u32, 1, 7, 10]);
+    show::text(b"0-1 twice: ");
+    show_free(free_schedule::free(&TWICE, &mut [9u32; 5]));
+    show::text(b"the same checked: ");
+    show_check(checker::check(&TWICE, 0, &[0u32, 3]));
 }

@@ -1,4 +1,4 @@
-// Chains and rings of 512 registers, along the list and against it.
+// Chains and rings of 512 registers, along the list and against it: the pairs come in the order of their launch registers.
 use crate::examples::show_free;
 use test_kit::largest;
 use test_kit::lists;
@@ -19,20 +19,31 @@ const NUMBERS: usize = 4 * RING;
 
 const WORDS: usize = 4 * RING + 2;
 
-// The launch register of pair k of m: k, or from the other end.
+// The launch register of pair k of m: they are the first m registers, or the last.
 fn start(m: usize, k: usize, against: bool) -> usize
     requires { ⌜ (k < m) × (m ≤ maxRegisters) ⌝ }
     ensures { λ r. ⌜ r < maxRegisters ⌝ }
 {
-    if against { m - 1 - k } else { k }
+    if against { RING - m + k } else { k }
 }
 
-// Pair k of m joins a register to the next one, around the ring.
+// The register after another, around the ring, or before it.
+fn beside(from: usize, against: bool) -> usize
+    requires { ⌜ from < maxRegisters ⌝ }
+    ensures { λ r. ⌜ r < maxRegisters ⌝ }
+{
+    if against {
+        return (from + RING - 1) % RING;
+    }
+    (from + 1) % RING
+}
+
+// Pair k of m joins a register to the one beside it.
 fn pair(m: usize, k: usize, against: bool, least: u32, greatest: u32, numbers: &mut [u32])
     requires { ⌜ (k < m) × (m ≤ maxRegisters) ⌝ }
 {
     let from = start(m, k, against);
-    let to = (from + 1) % RING;
+    let to = beside(from, against);
     random::put(numbers, 4 * k, from as u32, to as u32, least, greatest);
 }
 

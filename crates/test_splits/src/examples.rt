@@ -1,5 +1,6 @@
 // Worked examples.
 use split::Splitting;
+use test_kit::lists::TWICE;
 use test_kit::lists::needy;
 use test_kit::places::front;
 use test_kit::show;
@@ -101,4 +102,6 @@ pub fn refusals() {
         7,
         3,
     );
+    show::text(b"0-1 twice: ");
+    show_split(split::split(&TWICE, 0, 3, &mut [9u32; 1], &mut [9u32; 19]));
 }

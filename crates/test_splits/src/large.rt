@@ -1,4 +1,5 @@
-// Chains of 512 registers, along the list and against it: one late register makes all after it late.
+// Chains of 512 registers, along the list and against it: one late register makes all after it late. The pairs come in the order of
+// their launch registers.
 use crate::examples::show_split;
 use test_kit::largest;
 use test_kit::lists;
@@ -22,31 +23,22 @@ const PERIOD: u32 = 8;
 
 const OFFSET: u32 = 1;
 
-// The launch register of pair k of the chain: k, or from the other end.
-fn start(k: usize, against: bool) -> usize
-    requires { ⌜ k + 1 < maxRegisters ⌝ }
-    ensures { λ r. ⌜ r + 1 < maxRegisters ⌝ }
-{
-    if against { CHAIN - 1 - k } else { k }
-}
-
 // The greatest delay of the chain's first pair takes the period and the offset, that of the others the period alone.
-fn greatest(from: usize) -> u32 {
-    if from == 0 { PERIOD + OFFSET } else { PERIOD }
+fn greatest(first: bool) -> u32 {
+    if first { PERIOD + OFFSET } else { PERIOD }
 }
 
+// The pair of register k and the next: from k, or to it.
 fn pair(k: usize, against: bool, numbers: &mut [u32])
     requires { ⌜ k + 1 < maxRegisters ⌝ }
 {
-    let from = start(k, against);
-    random::put(
-        numbers,
-        4 * k,
-        from as u32,
-        from as u32 + 1,
-        PERIOD,
-        greatest(from),
-    );
+    let low = k as u32;
+    let at = 4 * k;
+    if against {
+        random::put(numbers, at, low + 1, low, PERIOD, greatest(k + 1 == CHAIN));
+        return;
+    }
+    random::put(numbers, at, low, low + 1, PERIOD, greatest(k == 0));
 }
 
 fn pairs(against: bool, numbers: &mut [u32]) {
