@@ -55,6 +55,7 @@ refused 4 '\x01\x80\x00\xb0' "refused 13 at 1"
 refused 8 '\x10\x27\x00\xa0' "refused 13 at 2"
 refused 4 '\x00\x00\x00\xa0\x00\x00\x00\xa0' "refused 18 at 1"
 refused 16 '\x01\x00\x00\x60' "refused 19 at 4"
+refused 12 '\x00\x04\x00\x40' "refused 20 at 6"
 refused 4 '\x01\x00\x00\x40' "refused 11 at 0"
 
 # ---- what cannot be opened or read is named

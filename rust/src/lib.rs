@@ -59,6 +59,7 @@ impl Refusal {
             17 => "the sum at the end is wrong: the list is damaged",
             18 => "all needs are zero: such a list has no words for them",
             19 => "a least delay is below the hold of its capture register",
+            20 => "pairs have to rise by launch, then capture: convert_list orders them",
             _ => "no call is refused with this number",
         }
     }
@@ -231,8 +232,8 @@ pub fn read(words: &[u32], answer: &mut [u32]) -> Result<Counts, Refusal> {
     Ok(Counts { registers: registers as u32, pairs: pairs as u32 })
 }
 
-/// Writes the list of n registers from four numbers for each pair, and a hold and a setup need for each register; its words
-/// fill the first places of `answer`. Needs that are all zero take no words. The count of words is returned.
+/// Writes the list of n registers from four numbers for each pair, in rising order by launch, then capture, and a hold and a
+/// setup need for each register; its words fill the first places of `answer`. Needs that are all zero take no words. The count of words is returned.
 pub fn write(n: u32, numbers: &[u32], needs: &[u32], answer: &mut [u32]) -> Result<usize, Refusal> {
     // SAFETY: as for `read`.
     let [_, count, ..] = told(|reply| unsafe {

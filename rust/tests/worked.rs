@@ -48,7 +48,30 @@ fn plans() {
     assert_eq!(planned(&ring), ([9, 7, 9, 0], vec![0, 2, 4], vec![0, 0, 0]));
     assert_eq!(planned(&list(3, &[])).0, [1, 1, 1, 0]);
     assert_eq!(planned(&list(1, &[0, 0, 0, 5])).0, [5, 5, 5, 0]);
-    assert_eq!(planned(&list(2, &[0, 1, 7, 10, 0, 1, 2, 4])).0, [10, 8, 8, 2]);
+    assert_eq!(planned(&list(2, &[0, 1, 2, 10])).0, [10, 8, 8, 2]);
+}
+
+/// A pair that stands twice, or out of order: each call that takes a list refuses it at its pair word, the writer at its index.
+#[test]
+fn pairs_that_do_not_rise() {
+    let twice = [0x2000_2002, 0x4000_0001, 0x6000_0007, 0x8000_000a, 0x4000_0001, 0x6000_0002, 0x8000_0004, 0xe000_201b];
+    let below = [0x2000_2002, 0x4000_0400, 0x6000_0001, 0x8000_0003, 0x4000_0001, 0x6000_0007, 0x8000_000a, 0xe000_2418];
+    let refused = Refusal { number: 20, place: 4 };
+    for words in [twice, below] {
+        assert_eq!(read(&words, &mut [0; 12]), Err(refused));
+        assert_eq!(check(&words, 0, &[0, 3]), Err(refused));
+        assert_eq!(free(&words, &mut [0; 1]), Err(refused));
+        assert_eq!(split(&words, 0, 3, &mut [0; 1], &mut []), Err(refused));
+        assert_eq!(plan(&words, &mut [0; 1], &mut []), Err(refused));
+        assert_eq!(why_not(&words, 0, &mut [0; 1], &mut []), Err(refused));
+        let mut text = [b'.'; TEXT_PLACES];
+        let bytes: Vec<u8> = words.iter().flat_map(|word| word.to_le_bytes()).collect();
+        let count = report(&bytes, &mut text);
+        assert_eq!(&text[..count], b"refused 20 at 4\n");
+    }
+    let written = |numbers: &[u32]| write(2, numbers, &[0; 4], &mut [0; 1]);
+    assert_eq!(written(&[0, 1, 7, 10, 0, 1, 2, 4]), Err(Refusal { number: 20, place: 1 }));
+    assert_eq!(written(&[0, 0, 1, 3, 1, 0, 1, 3, 0, 1, 7, 10]), Err(Refusal { number: 20, place: 2 }));
 }
 
 /// The common period takes the greatest delay and the setup of the capture register, and a hold takes off from what a register

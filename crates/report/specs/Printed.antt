@@ -29,6 +29,10 @@ printedTable =
           ∷ 0x40000400 ∷ 0x60000001 ∷ 0x80000003 ∷ 0xE000E41B ∷ []);
       text = "common 11 free 8 two 8 offset 3\n0 0 0\n1 3 3\n";
     }
+    ∷ record {
+      bytes = bytesOfWords (0x20002002 ∷ 0x40000001 ∷ 0x60000007 ∷ 0x8000000A ∷ 0x40000001 ∷ 0x60000002 ∷ 0x80000004 ∷ 0xE000201B ∷ []);
+      text = "refused 20 at 4\n";
+    }
     ∷ record { bytes = []; text = "refused 11 at 0\n" }
     ∷ record { bytes = 0 ∷ 0 ∷ 0 ∷ []; text = "refused 11 at 0\n" }
     ∷ []

@@ -1,9 +1,9 @@
 //! Job 1: reading and writing, and the way back.
-use darnerflax::{read, read_places, write, Counts, MAX_WORDS};
+use darnerflax::{read, read_places, write, Counts, Refusal, MAX_WORDS};
 
 use crate::lent::Lent;
 use crate::random::{exact_net, net, words, Random, Size};
-use crate::reference::{decode, encode, given, need_word, refuse, sealed, Need};
+use crate::reference::{decode, encode, given, need_word, refuse, sealed, Need, Net, Pair};
 use crate::tally::Tally;
 
 fn try_read(random: &mut Random, words: &[u32], tally: &mut Tally) {
@@ -62,8 +62,8 @@ fn try_write(random: &mut Random, n: u32, numbers: &[u32], needs: &[u32], tally:
     tally.answer(&expected, |_| if block > 0 { "written with needs" } else { "written" });
 }
 
-const READ: &[&str] = &["read", "read with needs", "2", "11", "12", "13", "14", "15", "16", "17", "18", "19"];
-const WRITTEN: &[&str] = &["written", "written with needs", "2", "11", "12", "13", "14", "15", "16", "19"];
+const READ: &[&str] = &["read", "read with needs", "2", "11", "12", "13", "14", "15", "16", "17", "18", "19", "20"];
+const WRITTEN: &[&str] = &["written", "written with needs", "2", "11", "12", "13", "14", "15", "16", "19", "20"];
 
 #[test]
 fn small_lists_read() {
@@ -121,16 +121,27 @@ fn spoil(random: &mut Random, n: &mut u32, numbers: &mut Vec<u32>, needs: &mut V
 
 fn spoil_numbers(random: &mut Random, n: u32, numbers: &mut Vec<u32>) {
     let at = random.below(numbers.len());
-    match random.below(6) {
+    match random.below(8) {
         0 => numbers[at] = random.word(),
         1 => numbers[at] = random.pick(&[n, n - 1, 1_023, 1_024, 1_000_000, 1_000_001, u32::MAX]),
         2 => numbers.truncate(at),
         3 => numbers.push(random.word()),
         4 => numbers.swap(at, 0),
-        _ => {
+        5 => {
             let pair = at / 4 * 4;
             numbers[pair + 2] = numbers[pair + 3].wrapping_add(random.upto(1));
         }
+        _ => spoil_order(random, at / 4 * 4, numbers),
+    }
+}
+
+/// The pair at a place and the one before it change places, or have the same registers.
+fn spoil_order(random: &mut Random, pair: usize, numbers: &mut [u32]) {
+    let Some(before) = pair.checked_sub(4) else { return };
+    if random.one_in(2) {
+        numbers[before..pair + 4].rotate_left(4);
+    } else {
+        numbers.copy_within(before..before + 2, pair);
     }
 }
 
@@ -216,6 +227,30 @@ fn limits_of_needs() {
         [written(9_999, 9_999, 0), written(9_998, 9_999, 0), written(9_998, 10_000, 0)],
         [Ok(7), Err((19, 0)), Err((13, 1))]
     );
+}
+
+/// A pair that is not above the one before it, in the reader and in the writer: the same, below it by launch, below it by capture;
+/// after every other check of the pair, before every check of the next.
+#[test]
+fn pairs_out_of_order() {
+    let told_of = |pairs: &[[u32; 4]], hold: u32| {
+        let needs = vec![Need { hold, setup: 1 }; 2];
+        let pair = |p: &[u32; 4]| Pair { launch: p[0] as usize, capture: p[1] as usize, least: p[2], greatest: p[3] };
+        let net = Net { needs, pairs: pairs.iter().map(pair).collect() };
+        let short = |refusal: Refusal| (refusal.number, refusal.place);
+        let written = write(2, &net.numbers(), &net.need_numbers(), &mut [0; 16]).map(|_| ()).map_err(short);
+        (read(&encode(&net), &mut [0; 16]).map(|_| ()).map_err(short), written)
+    };
+    let [first, again, back] = [[0, 1, 7, 10], [0, 1, 2, 4], [1, 0, 1, 3]];
+    assert_eq!(told_of(&[first, back], 1), (Ok(()), Ok(())));
+    assert_eq!(told_of(&[first, again], 1), (Err((20, 6)), Err((20, 1))));
+    assert_eq!(told_of(&[back, first], 1), (Err((20, 6)), Err((20, 1))));
+    assert_eq!(told_of(&[first, [0, 0, 7, 10]], 1), (Err((20, 6)), Err((20, 1))));
+    assert_eq!(told_of(&[first, [1, 1, 7, 10], back], 1), (Err((20, 9)), Err((20, 2))));
+    assert_eq!(told_of(&[first, again], 3), (Err((19, 7)), Err((19, 1))));
+    assert_eq!(told_of(&[first, [0, 1, 4, 3]], 1), (Err((16, 8)), Err((16, 1))));
+    assert_eq!(told_of(&[first, first, [0, 2, 7, 10]], 1), (Err((20, 6)), Err((20, 1))));
+    assert_eq!(told_of(&[first, [0, 2, 7, 10], first], 1), (Err((14, 6)), Err((14, 1))));
 }
 
 /// The largest list there is, with its block: 6,658 words, 9,216 numbers.

@@ -5,7 +5,7 @@ use darnerflax::{plan, Plan};
 
 use crate::lent::Lent;
 use crate::random::{exact_net, net, words, Random, Size};
-use crate::reference::{decode, encode, refuse, Net};
+use crate::reference::{decode, encode, refuse, Net, Pair};
 use crate::tally::Tally;
 use crate::trails::{least_timings, longest_cycle, Fraction};
 
@@ -63,7 +63,7 @@ fn small_nets_planned() {
         let words = words(&mut random, &net);
         try_plan(&mut random, &words, &mut tally);
     }
-    tally.all_met("small nets planned", &planned(&["1", "2", "11", "12", "13", "14", "15", "16", "17", "18", "19"]));
+    tally.all_met("small nets planned", &planned(&["1", "2", "11", "12", "13", "14", "15", "16", "17", "18", "19", "20"]));
 }
 
 #[test]
@@ -77,7 +77,7 @@ fn middle_nets_planned() {
         let words = words(&mut random, &net);
         try_plan(&mut random, &words, &mut tally);
     }
-    tally.all_met("middle nets planned", &planned(&["1", "2", "11", "12", "13", "14", "15", "16", "17", "18", "19"]));
+    tally.all_met("middle nets planned", &planned(&["1", "2", "11", "12", "13", "14", "15", "16", "17", "18", "19", "20"]));
 }
 
 #[test]
@@ -128,11 +128,12 @@ fn no_fraction_beats(net: &Net, shorter: u32, period: u32, least: u32) {
     assert!((0..least).all(|offset| net.plain_split(period, offset).is_none()), "{net:?}");
 }
 
-const SHAPES: &[&str] = &["six registers", "no pairs", "a register to itself", "a pair twice", "needs"];
+const SHAPES: &[&str] = &["six registers", "no pairs", "a register to itself", "there and back", "needs"];
 
 fn count_shapes(net: &Net, tally: &mut Tally) {
-    let ends: BTreeSet<_> = net.pairs.iter().map(|p| (p.launch, p.capture)).collect();
+    let ends: BTreeSet<_> = net.pairs.iter().map(Pair::ends).collect();
     let itself = ends.iter().any(|(a, b)| a == b);
-    let met = [net.registers() == 6, ends.is_empty(), itself, ends.len() < net.pairs.len(), net.needy()];
+    let back = ends.iter().any(|(a, b)| a != b && ends.contains(&(*b, *a)));
+    let met = [net.registers() == 6, ends.is_empty(), itself, back, net.needy()];
     SHAPES.iter().zip(met).filter(|(_, met)| *met).for_each(|(shape, _)| tally.count(*shape));
 }

@@ -1,4 +1,6 @@
 //! Random numbers with a fixed seed, random lists of several shapes, and damage.
+use std::collections::BTreeSet;
+
 use crate::reference::{encode, need_word, sealed, Need, Net, Pair};
 
 pub struct Random(u64);
@@ -57,28 +59,35 @@ pub struct Size {
     pub need: u32,
 }
 
-/// A net of a random shape: any two registers, a chain, a chain listed from its end, a ring, two rows with rungs, or a chain
-/// whose pairs point to and fro; in one case of three mixed.
+/// A net of a random shape: any two registers, a chain, a chain from the last register to the first, a ring, a chain whose pairs
+/// point to and fro, or two rows with rungs; in one case of three the registers are mixed.
 pub fn net(random: &mut Random, size: Size) -> Net {
     let n = 1 + random.below(size.registers);
     let m = random.below(size.pairs + 1);
     exact_net(random, n, m, size.delay, size.need)
 }
 
+/// With m pairs, or as many as there can be. A pair that is there already gives way to the next that is not.
 pub fn exact_net(random: &mut Random, n: usize, m: usize, delay: u32, need: u32) -> Net {
     let shape = random.below(6);
     let tight = random.below(4) as u32;
     let needs = needs(random, n, delay, need);
-    let mut pairs: Vec<Pair> = (0..m)
+    let mut taken = BTreeSet::new();
+    let pairs: Vec<Pair> = (0..m.min(n * n))
         .map(|k| {
             let (launch, capture) = match shape {
                 0 => (random.below(n), random.below(n)),
                 1 => (k % n, (k + 1).min(n - 1) % n),
-                2 => ((m - k) % n, (m - k + 1) % n),
+                2 => ((k + 1) % n, k % n),
                 3 => (k % n, (k + 1) % n),
                 4 => ((k + k % 2) % n, (k + 1 - k % 2) % n),
                 _ => (k % n, (k + n / 2 + random.below(2)) % n),
             };
+            let mut ends = n * launch + capture;
+            while !taken.insert(ends) {
+                ends = (ends + 1) % (n * n);
+            }
+            let (launch, capture) = (ends / n, ends % n);
             let hold = needs[capture].hold;
             let greatest = hold + random.upto(delay - hold);
             let least = match tight {
@@ -90,12 +99,11 @@ pub fn exact_net(random: &mut Random, n: usize, m: usize, delay: u32, need: u32)
             Pair { launch, capture, least: least.max(hold), greatest }
         })
         .collect();
-    let mut net = Net { needs, pairs: vec![] };
+    let mut net = Net { needs, pairs };
     if random.one_in(3) {
-        mix(random, &mut net.needs, &mut pairs);
+        mix(random, &mut net);
     }
-    net.pairs = pairs;
-    net
+    net.ordered()
 }
 
 /// Needs up to `need`: in half of all cases none at all, else of one register, holds or setups only, or both; no hold is above `delay`.
@@ -115,16 +123,15 @@ fn needs(random: &mut Random, n: usize, delay: u32, need: u32) -> Vec<Need> {
         .collect()
 }
 
-/// Registers renumbered, each with its needs, and pairs shuffled.
-fn mix(random: &mut Random, needs: &mut Vec<Need>, pairs: &mut [Pair]) {
-    let mut names: Vec<usize> = (0..needs.len()).collect();
+/// Registers renumbered, each with its needs.
+fn mix(random: &mut Random, net: &mut Net) {
+    let mut names: Vec<usize> = (0..net.registers()).collect();
     shuffle(random, &mut names);
-    shuffle(random, pairs);
-    for p in pairs {
+    for p in &mut net.pairs {
         (p.launch, p.capture) = (names[p.launch], names[p.capture]);
     }
-    let before = needs.clone();
-    names.iter().zip(before).for_each(|(name, need)| needs[*name] = need);
+    let before = net.needs.clone();
+    names.iter().zip(before).for_each(|(name, need)| net.needs[*name] = need);
 }
 
 pub fn shuffle<T>(random: &mut Random, xs: &mut [T]) {
@@ -155,9 +162,10 @@ fn damage(random: &mut Random, net: &Net, words: &mut Vec<u32>) {
     if words.is_empty() {
         return words.push(random.word());
     }
-    match random.below(3) {
+    match random.below(4) {
         0 => damage_any(random, words),
         1 => damage_pair(random, net, words),
+        2 => damage_order(random, net, words),
         _ => damage_needs(random, net, words),
     }
     if random.one_in(2) {
@@ -181,10 +189,14 @@ fn damage_any(random: &mut Random, words: &mut Vec<u32>) {
     }
 }
 
+/// Where the first pair stands.
+fn first_pair(net: &Net) -> usize {
+    1 + if net.needy() { net.registers() } else { 0 }
+}
+
 fn damage_pair(random: &mut Random, net: &Net, words: &mut [u32]) {
     let (n, last) = (net.registers() as u32, words.len() - 1);
-    let block = if net.needy() { net.registers() } else { 0 };
-    let pair = 1 + block + 3 * random.below(net.pairs.len() + 1);
+    let pair = first_pair(net) + 3 * random.below(net.pairs.len() + 1);
     let [pair, least, greatest] = [pair, pair + 1, pair + 2].map(|k| k.min(last));
     match random.below(5) {
         0 => words[pair] = 2 << 29 | random.pick(&[n - 1, n, 1023]) << 10 | random.upto(n),
@@ -195,6 +207,18 @@ fn damage_pair(random: &mut Random, net: &Net, words: &mut [u32]) {
             let near = (words[least] & 0x1fff_ffff).wrapping_add(random.upto(2)).wrapping_sub(1) & 0xf_ffff;
             words[greatest] = 4 << 29 | near;
         }
+    }
+}
+
+/// A pair that changes places with the one before it, has its registers, or its launch or capture register.
+fn damage_order(random: &mut Random, net: &Net, words: &mut [u32]) {
+    let before = first_pair(net) + 3 * random.below(net.pairs.len().max(1));
+    let Some(six) = words.get_mut(before..before + 6) else { return };
+    match random.below(4) {
+        0 => six.rotate_left(3),
+        1 => six[3] = six[0],
+        2 => six[3] = six[3] & !(0x3ff << 10) | six[0] & 0x3ff << 10,
+        _ => six[3] = six[3] & !0x3ff | six[0] & 0x3ff,
     }
 }
 

@@ -124,7 +124,7 @@ fn met(refusals: &[&'static str]) -> Vec<&'static str> {
     [ANSWERS, refusals].concat()
 }
 
-const REFUSALS: &[&str] = &["1", "2", "3", "11", "12", "13", "14", "15", "16", "17", "18", "19"];
+const REFUSALS: &[&str] = &["1", "2", "3", "11", "12", "13", "14", "15", "16", "17", "18", "19", "20"];
 
 /// Against all splits at all offsets, tried one by one.
 #[test]
@@ -141,25 +141,32 @@ fn tiny_nets_reasoned_plainly() {
     tally.all_met("tiny nets, reasons, all splits and offsets", &met(REFUSALS));
 }
 
-/// Every list of up to three registers and of two pairs with delays up to 3, at every period up to one more than the common one.
+/// Shows the net, and with up to `more` pairs after its last, from these ends on and with delays up to 3.
+fn grown(net: &mut Net, from: usize, more: usize, show: &mut dyn FnMut(&Net)) {
+    show(net);
+    let n = net.registers();
+    let last = if more > 0 { n * n } else { from };
+    for ends in from..last {
+        for (least, greatest) in (0..=3).flat_map(|greatest| (0..=greatest).map(move |least| (least, greatest))) {
+            net.pairs.push(Pair { launch: ends / n, capture: ends % n, least, greatest });
+            grown(net, ends + 1, more - 1, show);
+            net.pairs.pop();
+        }
+    }
+}
+
+/// Every list of up to two registers, and of three registers and up to two pairs, with delays up to 3, at every period up to one
+/// more than the common one.
 #[test]
 fn all_small_nets_reasoned() {
-    let delays: Vec<(u32, u32)> = (0..=3).flat_map(|greatest| (0..=greatest).map(move |least| (least, greatest))).collect();
     let mut random = Random::new(52);
     let mut tally = Tally::default();
-    for n in 1..=3 {
-        let pairs: Vec<Pair> = (0..n * n)
-            .flat_map(|ends| delays.iter().map(move |(least, greatest)| (ends / n, ends % n, *least, *greatest)))
-            .map(|(launch, capture, least, greatest)| Pair { launch, capture, least, greatest })
-            .collect();
-        for first in &pairs {
-            for second in &pairs {
-                let net = Net { needs: vec![Need::default(); n], pairs: vec![*first, *second] };
-                for period in 1..=net.common() + 1 {
-                    try_in(&mut random, &encode(&net), period, (4 * n, net.scratch()), plainly, &mut tally);
-                }
+    for (n, most) in [(1, 1), (2, 4), (3, 2)] {
+        grown(&mut Net { needs: vec![Need::default(); n], pairs: vec![] }, 0, most, &mut |net| {
+            for period in 1..=net.common() + 1 {
+                try_in(&mut random, &encode(net), period, (4 * n, net.scratch()), plainly, &mut tally);
             }
-        }
+        });
     }
     tally.all_met("all small nets, reasons", ANSWERS);
 }
@@ -198,7 +205,7 @@ fn full_nets_reasoned() {
 }
 
 /// A path of registers that are forced late one after the other, by setup along a pair or by hold against it, its last the launch
-/// of two slow pairs: to a register beside the path, and back to the first. Pairs and registers are in a random order.
+/// of two slow pairs: to a register beside the path, and back to the first. Registers are in a random order.
 fn path(random: &mut Random, n: usize) -> Net {
     let (period, offset) = (1_000, 100);
     let mut names: Vec<usize> = (0..n).collect();
@@ -213,8 +220,7 @@ fn path(random: &mut Random, n: usize) -> Net {
             Pair { launch: to, capture: from, least: random.upto(offset - 1), greatest: 500 }
         });
     }
-    shuffle(random, &mut pairs);
-    Net { needs: vec![Need::default(); n], pairs }
+    Net { needs: vec![Need::default(); n], pairs }.ordered()
 }
 
 /// Long chains: there is none that does not go along the path.

@@ -10,6 +10,12 @@ pub struct Pair {
     pub greatest: u32,
 }
 
+impl Pair {
+    pub fn ends(&self) -> (usize, usize) {
+        (self.launch, self.capture)
+    }
+}
+
 /// What a register needs: how long its input holds after the tick, and how long it stands before.
 #[derive(Clone, Copy, Debug, Default, PartialEq, Eq)]
 pub struct Need {
@@ -82,6 +88,14 @@ fn values(needs: &[Need], p: &Pair, places: [usize; 3]) -> Result<(), Refusal> {
     Ok(())
 }
 
+/// 20, at a place: the pair is not above the one before it, by launch, then capture.
+fn rises(before: Option<&Pair>, p: &Pair, place: usize) -> Result<(), Refusal> {
+    match before {
+        Some(before) if p.ends() <= before.ends() => refuse(20, place),
+        _ => Ok(()),
+    }
+}
+
 /// The needs that stand after the head: 13 for a word that is none, 18 if all are zero.
 fn block(words: &[u32]) -> Result<Vec<Need>, Refusal> {
     let mut needs = Vec::new();
@@ -120,6 +134,7 @@ pub fn decode(words: &[u32]) -> Result<Net, Refusal> {
         let [link, least, greatest] = [three[0] & 0xf_ffff, three[1] & 0x1fff_ffff, three[2] & 0x1fff_ffff];
         let p = Pair { launch: link as usize / 1_024, capture: link as usize % 1_024, least, greatest };
         values(&needs, &p, [at, at + 1, at + 2])?;
+        rises(pairs.last(), &p, at)?;
         pairs.push(p);
     }
     let end = words[last];
@@ -151,6 +166,7 @@ pub fn given(n: u32, numbers: &[u32], needs: &[u32]) -> Result<Net, Refusal> {
     for (k, four) in numbers.chunks_exact(4).enumerate() {
         let p = Pair { launch: four[0] as usize, capture: four[1] as usize, least: four[2], greatest: four[3] };
         values(&needs, &p, [k, k, k])?;
+        rises(pairs.last(), &p, k)?;
         pairs.push(p);
     }
     Ok(Net { needs, pairs })
@@ -163,6 +179,20 @@ impl Net {
 
     pub fn needy(&self) -> bool {
         self.needs.iter().any(|need| *need != Need::default())
+    }
+
+    /// Pairs in order, by launch, then capture. Those of the same registers become one, with the smaller least and the larger
+    /// greatest delay.
+    pub fn ordered(mut self) -> Net {
+        self.pairs.sort_by_key(Pair::ends);
+        self.pairs.dedup_by(|p, kept| {
+            let same = p.ends() == kept.ends();
+            if same {
+                (kept.least, kept.greatest) = (kept.least.min(p.least), kept.greatest.max(p.greatest));
+            }
+            same
+        });
+        self
     }
 
     /// Launch, capture, least and greatest of each pair.

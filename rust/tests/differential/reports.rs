@@ -65,5 +65,5 @@ fn reports() {
         bytes.extend(vec![0; random.pick(&[0, 0, 4, 40_000])]);
         try_report(&mut random, &bytes, &mut tally);
     }
-    tally.all_met("reports", &["plan", "11", "12", "13", "14", "15", "16", "17", "18", "19"]);
+    tally.all_met("reports", &["plan", "11", "12", "13", "14", "15", "16", "17", "18", "19", "20"]);
 }

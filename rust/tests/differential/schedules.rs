@@ -57,10 +57,11 @@ fn try_near(random: &mut Random, periods: Periods, mut timings: Vec<u32>, words:
     try_check(random, words, period, &timings, tally);
 }
 
-const CHECKED: &[&str] = &["admissible", "no pairs", "setup", "hold", "3", "11", "12", "13", "14", "15", "16", "17", "18", "19"];
+const CHECKED: &[&str] =
+    &["admissible", "no pairs", "setup", "hold", "3", "11", "12", "13", "14", "15", "16", "17", "18", "19", "20"];
 
 /// A full list has pairs.
-const FULL_CHECKED: &[&str] = &["admissible", "setup", "hold", "3", "11", "12", "13", "14", "15", "16", "17", "18", "19"];
+const FULL_CHECKED: &[&str] = &["admissible", "setup", "hold", "3", "11", "12", "13", "14", "15", "16", "17", "18", "19", "20"];
 
 #[test]
 fn small_schedules_checked() {
@@ -155,7 +156,7 @@ fn try_free(random: &mut Random, words: &[u32], tally: &mut Tally) {
     tally.answer(&expected, |periods| if periods.free < periods.common { "shorter" } else { "common" });
 }
 
-const FREED: &[&str] = &["shorter", "common", "2", "11", "12", "13", "14", "15", "16", "17", "18", "19"];
+const FREED: &[&str] = &["shorter", "common", "2", "11", "12", "13", "14", "15", "16", "17", "18", "19", "20"];
 
 #[test]
 fn small_nets_freed() {

@@ -66,7 +66,7 @@ fn near(random: &mut Random, net: &Net) -> (u32, u32) {
     }
 }
 
-const SPLIT: &[&str] = &["found", "none", "1", "2", "3", "11", "12", "13", "14", "15", "16", "17", "18", "19"];
+const SPLIT: &[&str] = &["found", "none", "1", "2", "3", "11", "12", "13", "14", "15", "16", "17", "18", "19", "20"];
 
 /// Damage can make a net of many registers.
 fn plainly(net: &Net, period: u32, offset: u32) -> Option<Vec<u32>> {
