@@ -1,7 +1,8 @@
 /* Climbs to slow lists: climb time|ratio FILE SECONDS SEED OUT [COUNTS]. Starts from the list in FILE, which has no needs, and changes
- * it at random for so many seconds; a change is kept if the plan then takes no less (time), or no less of what plain takes (ratio). In ratio at least
- * half the common period is kept: without that it comes to lists with all delays 0 and 1, where plain has nothing to seek. Writes
- * the list it has come to to OUT. Prints what the plan takes (time), or ours / plain (ratio), at the start and at the end.
+ * it at random for so many seconds, with its pairs put in order each time; a change is kept if the plan then takes no less (time), or
+ * no less of what plain takes (ratio). In ratio at least half the common period is kept: without that it comes to lists with all
+ * delays 0 and 1, where plain has nothing to seek. Writes the list it has come to to OUT. Prints what the plan takes (time), or
+ * ours / plain (ratio), at the start and at the end.
  *
  *     g++ -O3 -c bench/plain.cpp -o target/bench/plain.o
  *     gcc -O3 -Wall -Wextra -Ic bench/climb.c target/bench/plain.o target/staticlib/libplanner_c.a -lstdc++ -o target/bench/climb
@@ -60,6 +61,30 @@ static void decode(struct net *net) {
         const uint32_t *word = words + 1 + 3 * k;
         net->pairs[k] = (struct pair){word[0] >> 10 & 0x3ff, word[0] & 0x3ff, word[1] & PAYLOAD, word[2] & PAYLOAD};
     }
+}
+
+static uint32_t key(const struct pair *p) {
+    return p->launch << 10 | p->capture;
+}
+
+static int by_key(const void *a, const void *b) {
+    return key(a) < key(b) ? -1 : key(a) > key(b);
+}
+
+/* Pairs in ascending order; those of the same registers become one, with the smaller least and the larger greatest delay. */
+static void order(struct net *net) {
+    uint32_t kept = 0;
+    qsort(net->pairs, net->m, sizeof *net->pairs, by_key);
+    for (uint32_t k = 1; k < net->m; k++) {
+        struct pair *last = &net->pairs[kept], p = net->pairs[k];
+        if (key(last) == key(&p)) {
+            last->least = p.least < last->least ? p.least : last->least;
+            last->greatest = p.greatest > last->greatest ? p.greatest : last->greatest;
+        } else {
+            net->pairs[++kept] = p;
+        }
+    }
+    net->m = net->m > 0 ? kept + 1 : 0;
 }
 
 /* ---- costs */
@@ -165,10 +190,13 @@ static uint32_t some(uint32_t most) {
     return value < most ? value : most;
 }
 
+/* Two pairs exchange their delays. */
 static void swap(struct pair *a, struct pair *b) {
     struct pair kept = *a;
-    *a = *b;
-    *b = kept;
+    a->least = b->least;
+    a->greatest = b->greatest;
+    b->least = kept.least;
+    b->greatest = kept.greatest;
 }
 
 static uint32_t within(int64_t delay, uint32_t low, uint32_t high) {
@@ -215,14 +243,12 @@ static void change_pair(struct net *net) {
 
 /* A path from pair `k` on, register after register or jumping, with delays that go up or down by a step. */
 static void lay_path(struct net *net, uint32_t k, uint32_t length) {
-    uint32_t r = below(net->n), stride = below(3) ? 1 : 1 + below(net->n), back = below(2), spread = below(3);
+    uint32_t r = below(net->n), stride = below(3) ? 1 : 1 + below(net->n), back = below(2);
     int64_t delay = below(2) ? net->pairs[below(net->m)].greatest : below(MAX_DELAY + 1), step = (int64_t)some(4096) - (int64_t)some(4096);
     uint32_t slack = below(2) ? 0 : some(MAX_DELAY);
     for (; length-- > 0 && k < net->m; k++, delay += step) {
         uint32_t next = (r + stride) % net->n, greatest = within(delay, 0, MAX_DELAY);
         net->pairs[k] = (struct pair){back ? next : r, back ? r : next, greatest > slack ? greatest - slack : 0, greatest};
-        if (spread == 0)
-            swap(&net->pairs[k], &net->pairs[below(net->m)]);
         r = next;
     }
 }
@@ -240,12 +266,12 @@ static void lay_hub(struct net *net, uint32_t k, uint32_t length) {
 static void change_stretch(struct net *net) {
     uint32_t i = below(net->m), j = below(net->m), length = 1 + some(256), shift = some(net->n - 1);
     int64_t step = (int64_t)some(4096) - (int64_t)some(4096), delta = step;
-    switch (below(9)) {
-    case 0: /* reversed */
+    switch (below(8)) {
+    case 0: /* delays reversed */
         for (uint32_t end = i + length < net->m ? i + length : net->m - 1; i < end; i++, end--)
             swap(&net->pairs[i], &net->pairs[end]);
         break;
-    case 1: /* swapped with another */
+    case 1: /* delays exchanged with another */
         for (; length-- > 0 && i < net->m && j < net->m; i++, j++)
             swap(&net->pairs[i], &net->pairs[j]);
         break;
@@ -269,19 +295,13 @@ static void change_stretch(struct net *net) {
             net->pairs[i].least = within(net->pairs[i].least + delta, 0, net->pairs[i].greatest);
         }
         break;
-    case 5: /* in the order of their registers */
-        for (uint32_t end = i + length < net->m ? i + length : net->m; i < end; i++)
-            for (uint32_t k = i + 1; k < end; k++)
-                if (net->pairs[k].launch < net->pairs[i].launch)
-                    swap(&net->pairs[i], &net->pairs[k]);
-        break;
-    case 6: /* dropped, or new pairs at the end */
+    case 5: /* a pair dropped, or a new one with its delays */
         if (below(2) && net->m < DARNERFLAX_MAX_PAIRS)
-            net->pairs[net->m++] = net->pairs[i];
+            net->pairs[net->m++] = (struct pair){below(net->n), below(net->n), net->pairs[i].least, net->pairs[i].greatest};
         else if (net->m > 1)
-            swap(&net->pairs[i], &net->pairs[--net->m]);
+            net->pairs[i] = net->pairs[--net->m];
         break;
-    case 7:
+    case 6:
         lay_path(net, i, length);
         break;
     default:
@@ -339,6 +359,7 @@ int main(int argc, char **argv) {
     for (; best.m > 0 && now() < end; tries++) {
         next = best;
         change(&next);
+        order(&next);
         if (common(&next) < least)
             continue;
         double found = cost(&next, by_ratio, 1);

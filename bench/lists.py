@@ -1,5 +1,5 @@
 """The lists of the benchmark: a name, the count of registers, pairs (launch, capture, least, greatest), and for some of them needs
-(hold, setup) of each register."""
+(hold, setup) of each register. Pairs are in ascending order, by launch, then capture, and none is there twice."""
 import pathlib
 import random
 import struct
@@ -33,33 +33,45 @@ def circuit(name):
     n, m, common = CIRCUITS[name]
     rng = random.Random(name)
     every = [(a, b) for a in range(n) for b in range(n)]
-    chosen = rng.sample(every, m) if m <= len(every) else [rng.choice(every) for _ in range(m)]
-    pairs = [(a, b, *delays(rng, common, 20, 90)) for a, b in chosen]
-    a, b = next((a, b) for a, b, _, _ in pairs if a != b)
-    pairs[0] = (a, b, common * 7 // 10, common)
-    return n, pairs
+    pairs = [(a, b, *delays(rng, common, 20, 90)) for a, b in rng.sample(every, m)]
+    k, a, b = next((k, a, b) for k, (a, b, _, _) in enumerate(pairs) if a != b)
+    pairs[k] = (a, b, common * 7 // 10, common)
+    return ordered((n, pairs))
+
+
+def ordered(net):
+    """The same net with its pairs in ascending order; those of the same registers become one, with the smaller least and the larger
+    greatest delay."""
+    n, pairs = net
+    joined = {}
+    for a, b, least, greatest in pairs:
+        low, high = joined.get((a, b), (least, greatest))
+        joined[a, b] = min(low, least), max(high, greatest)
+    return n, [(a, b, *joined[a, b]) for a, b in sorted(joined)]
+
+
+def ends(rng, n, m):
+    """The registers of m pairs, drawn at random."""
+    return [divmod(key, n) for key in sorted(rng.sample(range(n * n), m))]
 
 
 def drawn(n, m, low, high, seed):
     """Pairs drawn at random, the least delay of `low` to `high` hundredths of the greatest."""
     rng = random.Random(seed)
-    return n, [(rng.randrange(n), rng.randrange(n), *delays(rng, 1_000_000, low, high)) for _ in range(m)]
+    return n, [(a, b, *delays(rng, 1_000_000, low, high)) for a, b in ends(rng, n, m)]
 
 
 def near(n, m, reach, seed):
     """Each register with others at most `reach` away."""
     rng = random.Random(seed)
-    pairs = []
-    for _ in range(m):
-        a = rng.randrange(n)
-        pairs.append((a, min(n - 1, max(0, a + rng.randint(-reach, reach))), *delays(rng, 1_000_000, 40, 99)))
-    return n, pairs
+    every = [(a, b) for a in range(n) for b in range(max(0, a - reach), min(n, a + reach + 1))]
+    return n, [(a, b, *delays(rng, 1_000_000, 40, 99)) for a, b in sorted(rng.sample(every, m))]
 
 
 def ones(n, m, seed):
     """Delays of 0 and 1 only: every period is 1."""
     rng = random.Random(seed)
-    return n, [(rng.randrange(n), rng.randrange(n), 0, rng.randint(0, 1)) for _ in range(m)]
+    return n, [(a, b, 0, rng.randint(0, 1)) for a, b in ends(rng, n, m)]
 
 
 def chain(n, seed):
@@ -79,20 +91,21 @@ def ladder(n, seed):
     half = n // 2
     links = [(r, r + 1) for r in range(half - 1)] + [(half + r, half + r + 1) for r in range(half - 1)]
     links += [(r, half + r) for r in range(half)] + [(half + r, r) for r in range(half)]
-    return n, [(a, b, *delays(rng, 1_000_000, 70, 99)) for a, b in links]
+    return ordered((n, [(a, b, *delays(rng, 1_000_000, 70, 99)) for a, b in links]))
 
 
 def zigzag(n, seed):
     """A chain whose pairs point to and fro, with no room between least and greatest."""
     rng = random.Random(seed)
     links = [(r, r + 1) if r % 2 else (r + 1, r) for r in range(n - 1)]
-    return n, [(a, b, *delays(rng, 1_000_000, 100, 100)) for a, b in links]
+    return ordered((n, [(a, b, *delays(rng, 1_000_000, 100, 100)) for a, b in links]))
 
 
 def strands(n, times, seed):
-    """A chain with several pairs at each link."""
+    """A chain with pairs to the next few registers too."""
     rng = random.Random(seed)
-    return n, [(r, r + 1, *delays(rng, 1_000_000, 95, 100)) for _ in range(times) for r in range(n - 1)]
+    links = [(r, r + k) for r in range(n) for k in range(1, times + 1) if r + k < n]
+    return n, [(a, b, *delays(rng, 1_000_000, 95, 100)) for a, b in links]
 
 
 def grid(side, seed):
@@ -100,72 +113,60 @@ def grid(side, seed):
     rng = random.Random(seed)
     links = [(y * side + x, y * side + x + 1) for y in range(side) for x in range(side - 1)]
     links += [(y * side + x, y * side + side + x) for y in range(side - 1) for x in range(side)]
-    return side * side, [(a, b, *delays(rng, 1_000_000, 80, 100)) for a, b in links]
+    return ordered((side * side, [(a, b, *delays(rng, 1_000_000, 80, 100)) for a, b in links]))
+
+
+def renamed(net, name):
+    """The same net with other numbers for its registers."""
+    n, pairs = net
+    return ordered((n, [(name[a], name[b], least, greatest) for a, b, least, greatest in pairs]))
 
 
 def turned(net):
-    """The same net with its pairs in the other order."""
-    n, pairs = net
-    return n, pairs[::-1]
+    """The same net with registers numbered from the other end."""
+    return renamed(net, range(net[0])[::-1])
 
 
 def mixed(net, seed):
-    """The same net with registers renumbered and pairs shuffled."""
-    rng = random.Random(seed)
-    n, pairs = net
-    name = rng.sample(range(n), n)
-    pairs = [(name[a], name[b], least, greatest) for a, b, least, greatest in pairs]
-    rng.shuffle(pairs)
-    return n, pairs
-
-
-def ascending(net, seed):
-    """The same net with registers renumbered and pairs in ascending order."""
-    n, pairs = net
-    name = list(range(n))
+    """The same net with registers renumbered."""
+    name = list(range(net[0]))
     random.Random(seed).shuffle(name)
-    return n, sorted((name[a], name[b], least, greatest) for a, b, least, greatest in pairs)
+    return renamed(net, name)
 
 
 def nested(n, m):
     """A path from register 0 up and a return from each register r, with a cycle that asks for a period of 900,000 + r: the cycles
-    lie in one another, and a period that is tried shows the next one only. Further pairs go back to 0 and ask for nothing."""
+    lie in one another, and a period that is tried shows the next one only. Further pairs go back to other registers and ask for
+    nothing."""
     last = n - 1
     slow = 900_000 + last + 1002
-    path = [(r, r + 1, slow, slow) for r in range(last)]
-    pairs = [(1 + k % last, 0, 1000, 1000) for k in range(m - 2 * last)]
-    for r in range(last - 1, -1, -2):
-        pairs += path[r:r + 2]
-    for first in 1, 2:
-        for r in range(first, n, 2):
-            rest = (900_000 + r) * (r + 1) - r * slow
-            pairs.append((r, 0, rest, rest))
-    return n, pairs
+    pairs = [(r, r + 1, slow, slow) for r in range(last)]
+    for r in range(1, n):
+        rest = (900_000 + r) * (r + 1) - r * slow
+        pairs.append((r, 0, rest, rest))
+    back = [(r, to, 1000, 1000) for to in range(1, 5) for r in range(to + 1, n)]
+    return ordered((n, pairs + back[:m - len(pairs)]))
 
 
 def zig(n, m):
-    """A chain of registers that are forced late one after the other, from 0 up; every other link stands at the front of the list,
-    the rest at the back, so that a sweep follows it one step. Between them a pair stands many times that forces nothing."""
-    links = [(r + 1, r, 0, 10) for r in range(n - 3, -1, -1)]
-    slow = 600_000
-    between = [(n - 1, n - 1, 0, slow)] + [(1, 0, 0, slow)] * (m - len(links) - 2)
-    return n, links[n % 2::2] + between + links[1 - n % 2::2] + [(n - 1, 0, 700_000, 1_000_000)]
+    """A chain of registers that are forced late one after the other, from the last but one down, by pairs in the other order, so that
+    a sweep follows it one step. Further pairs go back along the chain and force nothing."""
+    pairs = [(r, r + 1, 0, 10) for r in range(n - 2)] + [(n - 1, n - 1, 0, 600_000), (n - 1, n - 2, 700_000, 1_000_000)]
+    back = [(r, r - by, 0, 10) for by in range(1, 5) for r in range(by, n - 1)]
+    return ordered((n, pairs + back[:m - len(pairs)]))
 
 
 def hubwave(k, m):
-    """A wave that holds carry along a chain from register 0 up, a step in each sweep; each register it comes to raises a hub by 1
-    more than the one before, and the hub raises two others, between which all other pairs stand."""
+    """A wave that holds carry along a chain from register k down, a step in each sweep; each register it comes to raises a hub by 1
+    more than the one before, and the hub raises two others, at which all other pairs end."""
     start, hub, one, other, alone = range(k + 1, k + 6)
-    links = [(r + 1, r, 1, 1) for r in range(k)]
-    pairs = [(alone, alone, 500_000, 500_000)] + links[1::2]
+    pairs = [(alone, alone, 500_000, 500_000), (one, hub, 0, 0), (other, hub, 0, 0), (start, k, 500_000 + 4 * k, 500_000 + 4 * k)]
     for r in range(k + 1):
-        delay = 2 * (k - r) + 10
-        pairs.append((hub, r, delay, delay))
-    pairs += [(one, hub, 0, 0), (other, hub, 0, 0)]
-    last = links[0::2] + [(start, 0, 500_000 + 4 * k, 500_000 + 4 * k)]
-    for place in range(len(pairs), m - len(last)):
-        pairs.append((one, other, 400_000, 400_000) if place % 2 else (other, one, 400_000, 400_000))
-    return k + 6, pairs + last
+        pairs.append((hub, r, 2 * r + 10, 2 * r + 10))
+        if r > 0:
+            pairs.append((r - 1, r, 1, 1))
+    rest = [(a, b, 400_000, 400_000) for r in range(k + 1) for a, b in ((one, r), (other, r), (r, one), (r, other))]
+    return ordered((k + 6, pairs + rest[:m - len(pairs)]))
 
 
 def needs(net, most, seed):
@@ -214,15 +215,15 @@ def shapes():
 
 
 def hard():
-    """Lists made to be slow for the planner as it was."""
+    """Lists like those that were made to be slow for the planner as it was."""
     yield 'nested', nested(512, 2048)
-    yield 'nested, ascending', ascending(nested(512, 1022), 7)
+    yield 'nested, mixed', mixed(nested(512, 1022), 7)
     yield 'zig', zig(512, 2048)
     yield 'hubwave', hubwave(500, 2048)
 
 
 def found():
-    """Lists that bench/climb.c found to be slow, for this planner and for those before."""
+    """Lists that bench/climb.c found to be slow, for this planner and for those before, put in order since."""
     for file in sorted(FOUND.glob('*.list')):
         yield file.stem.replace('-', ' '), decode(file.read_bytes())
 
@@ -253,5 +254,5 @@ def needy():
 def growth():
     """More pairs for 512 registers, and more registers for 2,048 pairs."""
     by_pairs = [(m, drawn(512, m, 60, 99, 9)) for m in (64, 128, 256, 512, 1024, 2048)]
-    by_registers = [(n, drawn(n, 2048, 60, 99, 10)) for n in (16, 32, 64, 128, 256, 512)]
+    by_registers = [(n, drawn(n, 2048, 60, 99, 10)) for n in (48, 64, 96, 128, 256, 512)]
     return by_pairs, by_registers

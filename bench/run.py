@@ -86,8 +86,8 @@ class Row:
         return self.count / int(BEFORE[self.name]) if self.name in BEFORE else 0
 
     def since_needs(self):
-        """Instructions beside those of the planner that knew no needs."""
-        return self.count / int(BEFORE_NEEDS[self.name])
+        """Instructions beside those of the planner that knew no needs, 0 where these are not known."""
+        return self.count / int(BEFORE_NEEDS[self.name]) if self.name in BEFORE_NEEDS else 0
 
     def faster(self):
         """Against the faster of the two MILP solvers, finished or cut off."""
@@ -297,7 +297,8 @@ def main():
         'NEEDY': table(NEEDY_HEAD, [needy.line() for needy in with_needs]),
         'MOST_NEEDY': f'{most_needy.more():.2f}', 'MOST_NEEDY_LIST': most_needy.name,
         'MOST_COUNTED': f'{most_counted.more_than_counted_in():.2f}', 'MOST_COUNTED_LIST': most_counted.name,
-        'SINCE': len(since), 'SINCE_OF': len(every), 'MOST_SINCE': f'{most_since.since_needs():.2f}', 'MOST_SINCE_LIST': most_since.name,
+        'SINCE': len(since), 'SINCE_OF': sum(row.since_needs() > 0 for row in every),
+        'MOST_SINCE': f'{most_since.since_needs():.2f}', 'MOST_SINCE_LIST': most_since.name,
         'WHY': table(WHY_HEAD, [two.line() for two in whys if two.row in shapes + hard or two.row in circuits and two.row.n >= 100]),
         'WHY_OF': len(whys), 'WHY_MOST': million(most_why.count), 'WHY_MOST_LIST': most_why.row.name, 'WHY_MICRO': micro(most_why.seconds),
         'WHY_LEAST': f'{least_why.fewer():.2f}', 'WHY_LEAST_LIST': least_why.row.name, 'WHY_MEAN': f'{mean_why:.2f}',
