@@ -1,9 +1,9 @@
 // The programs on what they refuse or find wrong: texts that are empty, faulty, cut at the end of a line, or name register 2 of 2; needs
-// after a pair, too large, above a least delay, or of one register of two; lists that are refused, and two that are shown, without
-// needs and with them; no split; schedules that break hold and setup, are faulty, have a timing too few or one too large; schedules with
-// margins of each sign, and of a list without pairs; periods and offsets out of range; a period that works, and one that is blocked by a
-// hold rule too; a text that is too long, a directory, output that cannot be written, and no arguments. Then texts without needs, with
-// needs in the last line, and of the largest size, with commas.
+// after a pair, too large, above a least delay, or of one register of two; pairs out of order; lists that are refused, and two that are
+// shown, without needs and with them; no split; schedules that break hold and setup, are faulty, have a timing too few or one too large;
+// schedules with margins of each sign, and of a list without pairs; periods and offsets out of range; a period that works, and one that
+// is blocked by a hold rule too; a text that is too long, a directory, output that cannot be written, and no arguments. Then texts
+// without needs, with needs in the last line, and of the largest size, with commas.
 use libc::STDOUT_FILENO;
 use text_programs::check_from;
 use text_programs::make_from;
@@ -65,6 +65,7 @@ fn needs() {
     make(b"after");
     make(b"need");
     make(b"hold");
+    make(b"order");
     make(b"fewer");
 }
 
@@ -73,6 +74,7 @@ fn lists() {
     show(b"needs");
     show(b"zero");
     show(b"held");
+    show(b"twice");
     show(b"refused");
     text_programs::free_from(
         os::open_read(b"refused"),
