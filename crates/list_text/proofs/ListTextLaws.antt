@@ -12,16 +12,14 @@ use Rattle.timing.specs.Limits.{maxRegisters, maxPairs}
 use Rattle.buffers.specs.Over.{over, zeros}
 use Rattle.buffers.proofs.FillLaws.{filled-front, filled-fits}
 use Rattle.buffers.proofs.PadLaws.{zeros-size}
-use Rattle.words.specs.Bytes.{toBytes}
-use Rattle.words.proofs.BytesLaws.{bytes-size}
 use Rattle.refusals.specs.Checks.{firstFault, orCheck, faultAfter}
 use Rattle.refusals.specs.Reply.{numbers, done, refused, replyOf, bufferAfter, told}
 use Rattle.refusals.specs.declared.Fault.the-variants.{None, At}
 use Rattle.refusals.proofs.ReplyLaws.{answered-done, numbers-none, numbers-done, told-refusal, first-refused}
 use Rattle.list_format.specs.Lists.{registers, pairCount, needsOf, differ}
 use Rattle.list_format.specs.Read.{numbersOf, readPlaces, readChecks, reading, readReply}
-use Rattle.list_format.specs.Write.{givenCount, wordsOf, endPlace, countChecks, givenBody, writeChecks, GivenIn, writingBy, writing, writeReply}
-use Rattle.list_format.specs.RoundTrip.{ReadAs, WrittenAs}
+use Rattle.list_format.specs.Write.{givenCount, wordsOf, endPlace, countChecks, givenBody, writeChecks, GivenIn, writingBy, writeReply}
+use Rattle.list_format.specs.RoundTrip.{ReadAs, WrittenBy}
 use Rattle.list_format.specs.declared.Reading.{Reading}
 use Rattle.list_format.specs.declared.Reading.the-variants.{Read, Refused}
 use Rattle.list_format.specs.declared.Writing.{Writing}
@@ -29,23 +27,24 @@ use Rattle.list_format.specs.declared.Writing.the-variants.{Written, Refused as
 use Rattle.list_format.proofs.NeedsLaws.{needs-length}
 use Rattle.list_format.proofs.ListLaws.{numbers-in}
 use Rattle.list_format.proofs.ReadBack.{numbers-length}
-use Rattle.list_format.proofs.WriteBack.{few-needs, given-in, words-length}
+use Rattle.list_format.proofs.WriteBack.{given-in, words-length}
 use Rattle.text_pieces.specs.Pieces.{Put}
 use Rattle.text_pieces.specs.Saying.{SaidAs, text as sayText}
 use Rattle.text_pieces.specs.declared.Said.the-variants.{Text, Trouble}
-use Rattle.text_pieces.proofs.PutLaws.{put-within}
 use Rattle.text_pieces.proofs.SaidLaws.{said-text, said-trouble}
 use Rattle.refusal_text.specs.RefusalText.{lineWidth, refusalLine, refusedSaying, faultLine}
-use Rattle.list_bytes.specs.ListBytes.{maxWords, maxBytes}
+use Rattle.list_bytes.specs.ListBytes.{maxWords}
 use Rattle.scan.specs.declared.Scanned.{Scanned}
 use Rattle.scan.specs.declared.Scanned.the-variants.{Numbers, Faulty}
 use Rattle.scan.specs.Scan.{maxNumbers, ScanAs}
 use Rattle.scan.proofs.ScanLaws.{lent-is}
 use Rattle.scan.proofs.StoredLaws.{stored-front, stored-size}
-use Rattle.list_text.specs.ListText.{listWidth, shownPlaces, textOf, listNumbers, shownSaid, Product, listBytes, errorLine}
-use Rattle.list_text.specs.ListText.{refusedLine, madeRefused, madeDone, madeFrom, needsGiven, madeWith, madeOf, made, storedFor, returnedFor, MadeAs}
-use Rattle.list_text.specs.declared.Made.{Made}
-use Rattle.list_text.specs.declared.Made.the-variants.{Bytes, Fault}
+use Rattle.convert_text.specs.ConvertText.{errorLine, convertedFrom, MadeAs}
+use Rattle.convert_text.specs.declared.Made.{Made}
+use Rattle.convert_text.specs.declared.Made.the-variants.{Fault}
+use Rattle.convert_text.proofs.ConvertTextLaws.{made-fault}
+use Rattle.list_text.specs.ListText.{listWidth, shownPlaces, textOf, listNumbers, shownSaid}
+use Rattle.list_text.specs.ListText.{refusedLine, madeRefused, madeStored, madeFrom, needsGiven, madeWith, madeOf, made}
 
 -- ---- showing
 
@@ -137,73 +136,35 @@ module _ {ws now : List ℕ} {r : Reading} (a : ReadAs ws (zeros listNumbers) no
 
 -- ---- making
 
--- the bytes of all words
-pub bytes-put : (ws was now : List ℕ) → 4 * length ws ≤ length was → now ≡ over (toBytes ws (length ws)) was
-    → Put (4 * length ws) (toBytes ws (length ws)) was 0 now (4 * length ws)
-bytes-put ws was now room e =
-    let size = bytes-size ws (length ws) in
-    record { most = omega (arith, size); room = omega (arith, size); after = omega (arith, size); is = e }
-
-module _ {piece out out′ : List ℕ} {next : ℕ} where
-  pub made-bytes : Put maxBytes piece out 0 out′ next → MadeAs (listBytes piece) out out′ (Bytes next)
-  unfolding returnedFor storedFor
-  made-bytes put =
-      let e : next ≡ length piece = omega (arith, put .after) in
-      record { answer = rw e; stored = rw e at put }
-
-  pub made-fault : Put lineWidth piece out 0 out′ next → MadeAs (errorLine piece) out out′ (Fault next)
-  unfolding returnedFor storedFor
-  made-fault put =
-      let e : next ≡ length piece = omega (arith, put .after) in
-      record { answer = rw e; stored = rw e at (put-within put {v = maxBytes} (omega (arith, put .most))) }
-
--- the count of bytes that is returned
-abbrev pub countOf : Made → ℕ
-countOf (Bytes count) = count
-countOf (Fault count) = count
-
--- that many bytes can be lent
-pub made-put : {p : Product} {out out′ : List ℕ} {r : Made} {count : ℕ} → MadeAs p out out′ r → countOf r ≡ count
-    → Put maxBytes (storedFor p) out 0 out′ count
-unfolding returnedFor storedFor
-made-put {p} {out} {out′} {r} {count} a e = rw (size p ∙ ap countOf (sym (a .answer)) ∙ e) at (a .stored)
-  where
-    size : (p : Product) → length (storedFor p) ≡ countOf (returnedFor p)
-    size (listBytes bs) = refl
-    size (errorLine bs) = refl
-
-module _ {n : ℕ} {xs ys now : List ℕ} {r : Writing} (a : WrittenAs n xs ys (zeros maxWords) now r) where
-  answer : writeReply r ≡ replyOf (writing n xs ys maxWords)
+module _ {n : ℕ} {xs ys now : List ℕ} {r : Writing} (a : WrittenBy false n xs ys (zeros maxWords) now r) where
+  answer : writeReply r ≡ replyOf (writingBy false n xs ys maxWords)
   answer = rw (zeros-size maxWords) at (a .reply)
 
   pub make-refused : (bs : List ℕ) (needs : ℕ) {number place next : ℕ} {out out′ : List ℕ} → r ≡ NotWritten number place
       → Put lineWidth (refusedLine bs needs number place) out 0 out′ next
       → MadeAs (madeFrom bs needs n xs ys) out out′ (Fault next)
   unfolding writeReply
-  make-refused bs needs e put = rw (told-refusal (madeRefused bs needs) madeDone (writing n xs ys maxWords) (rw e at answer)) (made-fault put)
+  make-refused bs needs e put = rw (told-refusal (madeRefused bs needs) madeStored (writingBy false n xs ys maxWords) (rw e at answer)) (made-fault put)
 
   module _ {count : ℕ} (e : r ≡ Written count) where
-    given : numbers (count ∷ []) ≡ replyOf (writing n xs ys maxWords)
+    given : numbers (count ∷ []) ≡ replyOf (writingBy false n xs ys maxWords)
     unfolding writeReply
     given = rw e at answer
 
-    pass : firstFault (writeChecks true n xs ys maxWords) ≡ None
+    pass : firstFault (writeChecks false n xs ys maxWords) ≡ None
     unfolding writingBy
-    pass = numbers-none (firstFault (writeChecks true n xs ys maxWords)) (done ((endPlace n xs ys + 1) ∷ []) (wordsOf n xs ys)) given
+    pass = numbers-none (firstFault (writeChecks false n xs ys maxWords)) (done ((endPlace n xs ys + 1) ∷ []) (wordsOf n xs ys)) given
 
     within : GivenIn n xs ys
-    within = given-in true n xs ys maxWords pass
+    within = given-in false n xs ys maxWords pass
 
-    written : writing n xs ys maxWords ≡ done ((endPlace n xs ys + 1) ∷ []) (wordsOf n xs ys)
+    written : writingBy false n xs ys maxWords ≡ done ((endPlace n xs ys + 1) ∷ []) (wordsOf n xs ys)
     unfolding writingBy
-    written = answered-done (writeChecks true n xs ys maxWords) (done ((endPlace n xs ys + 1) ∷ []) (wordsOf n xs ys)) pass
+    written = answered-done (writeChecks false n xs ys maxWords) (done ((endPlace n xs ys + 1) ∷ []) (wordsOf n xs ys)) pass
 
     count-is : count ≡ endPlace n xs ys + 1
     unfolding replyOf
     count-is = let e = rw written at given in cc
-
-    pub written-few : count ≤ maxWords
-    written-few = rw count-is (omega (arith, within .few, within .most, few-needs n ys))
 
     word-size : length (wordsOf n xs ys) ≡ count
     word-size = words-length n xs ys within ∙ sym count-is
@@ -222,13 +183,12 @@ module _ {n : ℕ} {xs ys now : List ℕ} {r : Writing} (a : WrittenAs n xs ys (
     pub written-size : count ≡ length (take count now)
     written-size = rw words-are (sym word-size)
 
-    pub make-written : (bs : List ℕ) (needs : ℕ) {next : ℕ} {out out′ : List ℕ} → Put (4 * length (take count now))
-        (toBytes (take count now) (length (take count now))) out 0 out′ next
-        → MadeAs (madeFrom bs needs n xs ys) out out′ (Bytes next)
+    pub make-written : (bs : List ℕ) (needs : ℕ) {out out′ : List ℕ} {answer : Made} → MadeAs (convertedFrom (take count now)) out out′ answer
+        → MadeAs (madeFrom bs needs n xs ys) out out′ answer
     unfolding told
-    make-written bs needs put =
-        let here : madeFrom bs needs n xs ys ≡ listBytes (toBytes (take count now) (length (take count now))) = rw (written, words-are) in
-        rw here (made-bytes (put-within put (omega (arith, put .most, written-size, written-few))))
+    make-written bs needs made =
+        let here : madeFrom bs needs n xs ys ≡ convertedFrom (take count now) = rw (written, words-are) in
+        rw here made
 
 -- ---- a text without needs
 
@@ -241,10 +201,10 @@ pub zeros-lent : (k j : ℕ) → k ≤ j → k ≡ length (take k (zeros j))
 zeros-lent k j h = rw (zeros-front k j h) (sym (zeros-size k))
 
 -- too many registers are refused before the needs are looked at
-many : (n : ℕ) (xs ys : List ℕ) → maxRegisters < n → writing n xs ys maxWords ≡ refused (cond (differ (length xs % 4) 0) 11 12) 0
+many : (n : ℕ) (xs ys : List ℕ) → maxRegisters < n → writingBy false n xs ys maxWords ≡ refused (cond (differ (length xs % 4) 0) 11 12) 0
 unfolding writingBy orCheck faultAfter
 many n xs ys h =
-    first-refused (countChecks n (length xs) (length ys)) (givenBody true n xs ys (givenCount xs) maxWords)
+    first-refused (countChecks n (length xs) (length ys)) (givenBody false n xs ys (givenCount xs) maxWords)
     (done ((endPlace n xs ys + 1) ∷ []) (wordsOf n xs ys))
     (rw (ne-eqb n 0 (λ e. omega arith), lt-ltb maxRegisters n h) (go (differ (length xs % 4) 0)))
   where

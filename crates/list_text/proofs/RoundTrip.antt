@@ -1,6 +1,6 @@
 -- What is shown of an accepted list is read back to the same bytes: each line is read to the two needs of its register (`two-reads`) or to the
 -- four numbers of its pair (`four-reads`), the whole text to the needs and the numbers of the list, and those write the same words
--- (`read-back` of list_format). Where there are no lines of needs, all needs are 0, and are taken to be.
+-- (`read-back` of list_format), which converting keeps (`accepted-kept`). Where there are no lines of needs, all needs are 0, and are taken to be.
 use Prim.Native.Nat.{ℕ, zero, suc, _+_, _-_, _*_, _/_, _%_, _^_, _≤_, _<_}
 use mathlib.Core.Bool.{Bool, true, false, cond}
 use mathlib.Core.List.{List, [], _∷_, _++_, append-nil}
@@ -9,19 +9,17 @@ use native.Mathlib.Omega.{arith}
 use lib.Dec.{ltb, eqb}
 use lib.ListN.{length, getD, drop, length-append}
 use lib.Seq.{take-at, drop-at, ext-getD}
-use borrow.Author.Tests.{ltb-false, eqb-true, le-ltb, eq-eqb, ne-eqb}
+use borrow.Author.Tests.{le-ltb, eq-eqb, ne-eqb}
 use Rattle.buffers.specs.Run.{run}
 use Rattle.buffers.specs.Over.{zeros}
 use Rattle.buffers.proofs.RunLaws.{run-length, run-most}
 use Rattle.buffers.proofs.PadLaws.{run-same, zeros-size, zero-at}
-use Rattle.words.specs.Word.{kindNeeds, kindOf}
-use Rattle.words.specs.Bytes.{byteBits, toWords, toBytes}
-use Rattle.ordering.specs.Order.{Ascends}
+use Rattle.words.specs.Bytes.{byteBits, toBytes}
 use Rattle.refusals.specs.Reply.{done, told}
 use Rattle.refusals.proofs.CheckLaws.{pass-both}
 use Rattle.refusals.proofs.ReplyLaws.{answered-done, one-passes}
-use Rattle.list_format.specs.Lists.{word, registers, pairCount, needWordsBy, holdAt, setupAt, twoAt, needsOf, noNeeds}
-use Rattle.list_format.specs.Lists.{placeBy, writtenAt, listChecks, IsAccepted}
+use Rattle.list_format.specs.Lists.{registers, pairCount, holdAt, setupAt, twoAt, needsOf, noNeeds}
+use Rattle.list_format.specs.Lists.{writtenAt, listChecks, IsAccepted}
 use Rattle.list_format.specs.Read.{fourOf, numbersOf, readPlaces, readChecks, reading}
 use Rattle.list_format.specs.Write.{givenNeeds}
 use Rattle.list_format.proofs.NeedsLaws.{need-zero, needs-length}
@@ -39,10 +37,11 @@ use Rattle.scan.proofs.ScanLaws.{no-mark}
 use Rattle.scan.proofs.ReadsLaws.{Reads, reads-none, reads-then, at, reads-space, reads-newline, reads-promise, not-second}
 use Rattle.text_pieces.specs.Saying.{text as sayText, bytesOf}
 use Rattle.refusal_text.specs.RefusalText.{refusedSaying}
-use Rattle.list_bytes.specs.ListBytes.{maxWords, maxBytes, listOf}
-use Rattle.list_bytes.proofs.LoadLaws.{list-back}
+use Rattle.list_bytes.specs.ListBytes.{maxWords, listOf}
+use Rattle.convert_text.specs.ConvertText.{listBytes}
+use Rattle.convert_text.proofs.ConvertTextLaws.{needs-most, accepted-kept, accepted-bytes}
 use Rattle.list_text.specs.ListText.{twoLine, fourLine, needsLine, pairLine, textOf, listNumbers, shownSaid, shownText}
-use Rattle.list_text.specs.ListText.{listBytes, needsGiven, madeOf, made}
+use Rattle.list_text.specs.ListText.{needsGiven, madeOf, made}
 
 -- a number of at most k digits, with the byte that ends it
 short : (k n end : ℕ) → n < 10 ^ suc k → length (number n end) ≤ k + 2
@@ -146,12 +145,7 @@ module _ (ws : List ℕ) (l : ListIn ws) where
       (omega (arith, v .launch)) (omega (arith, v .capture)) (omega (arith, v .order, v .limit)) (omega (arith, v .limit))))
 
   words-fit : length ws ≤ maxWords
-  unfolding needWordsBy
-  words-fit = go (eqb (kindOf (word ws 1)) kindNeeds) (l .head .size)
-    where
-      go : (b : Bool) → length ws ≡ placeBy (cond b (registers ws) 0) (pairCount ws) + 1 → length ws ≤ maxWords
-      go true e = omega (arith, l .head .few, l .head .most)
-      go false e = omega (arith, l .head .few)
+  words-fit = omega (arith, l .head .size, l .head .few, l .head .most, needs-most ws)
 
   -- ---- the text, with so many lines of needs
 
@@ -262,26 +256,26 @@ module _ (ws : List ℕ) (l : ListIn ws) where
     unfolding rest
     numbers-are = drop-at (run (twoAt ws) lines) (numbersOf ws) (2 * lines) two-size
 
-    made-with : Ascends (writtenAt ws) (pairCount ws) → needsGiven (2 * lines) (registers ws) rest ≡ needsOf ws
+    made-with : IsAccepted ws → needsGiven (2 * lines) (registers ws) rest ≡ needsOf ws
         → made text ≡ listBytes (toBytes ws (length ws))
     unfolding madeOf told
-    made-with rise e =
-        rw (scan-is, stored-is, numbers-are, e, read-back ws l true (λ z. rise) maxWords words-fit)
+    made-with a e =
+        let rise = list-ascends ws (accepted→none ws a .none) in
+        rw (scan-is, stored-is, numbers-are, e, read-back ws l false (λ z. rise) maxWords words-fit) (accepted-kept ws a words-fit)
 
   -- without lines of needs, and with one for each register
-  pub made-is : Ascends (writtenAt ws) (pairCount ws)
-      → made (textOf (registers ws) (numbersOf ws) (needsOf ws)) ≡ listBytes (toBytes ws (length ws))
+  pub made-is : IsAccepted ws → made (textOf (registers ws) (numbersOf ws) (needsOf ws)) ≡ listBytes (toBytes ws (length ws))
   unfolding text rest needsGiven
-  made-is rise = go (noNeeds (needsOf ws)) refl
+  made-is a = go (noNeeds (needsOf ws)) refl
     where
       go : (b : Bool) → noNeeds (needsOf ws) ≡ b → made (textOf (registers ws) (numbersOf ws) (needsOf ws)) ≡ listBytes (toBytes ws (length ws))
       go true e =
-          made-with 0 (sym (given-none (registers ws) (needsOf ws) e)) (omega arith) rise
+          made-with 0 (sym (given-none (registers ws) (needsOf ws) e)) (omega arith) a
           (zeros-are (needsOf ws) (2 * registers ws) (needs-length ws) e)
       go false e =
           let n = registers ws in
           let some : eqb (2 * n) 0 ≡ false = ne-eqb (2 * n) 0 (λ z. omega (arith, l .head .some)) in
-          made-with n (sym (given-all n (needsOf ws) e)) (omega arith) rise
+          made-with n (sym (given-all n (needsOf ws) e)) (omega arith) a
           (rw some (take-at (needsOf ws) (numbersOf ws) (2 * n) (needs-length ws)))
 
 -- what is shown of an accepted list
@@ -298,23 +292,10 @@ shown-is ws a =
     let ys = drop-at (numbersOf ws) (needsOf ws) (4 * m) (numbers-length ws) in
     rw (answered-done (readChecks ws listNumbers) (done (n ∷ m ∷ []) (numbersOf ws ++ needsOf ws)) pass, xs, ys)
 
--- the bytes of a list that is accepted are not too many, and four to a word
-counts : (bs : List ℕ) → 0 < length (listOf bs) → (length bs ≤ maxBytes) × (length bs % 4 ≡ 0)
-unfolding listOf
-counts bs = go (ltb maxBytes (length bs)) refl (eqb (length bs % 4) 0) refl
-  where
-    go : (b : Bool) → ltb maxBytes (length bs) ≡ b → (b′ : Bool) → eqb (length bs % 4) 0 ≡ b′
-        → 0 < length (cond b [] (cond b′ (toWords bs (length bs / 4)) [])) → (length bs ≤ maxBytes) × (length bs % 4 ≡ 0)
-    go true e b′ e′ h = absurd (omega arith)
-    go false e true e′ h = (ltb-false maxBytes (length bs) e, eqb-true (length bs % 4) 0 e′)
-    go false e false e′ h = absurd (omega arith)
-
 -- what is shown of the bytes of an accepted list makes a list again, of those bytes
 pub shown-made : (bs : List ℕ) → ((i : ℕ) → getD bs i 0 < 2 ^ byteBits) → IsAccepted (listOf bs)
     → made (bytesOf (shownText bs)) ≡ listBytes bs
 unfolding bytesOf
 shown-made bs small a =
     let l = accepted-in (listOf bs) a in
-    let both = counts bs (omega (arith, l .head .size)) in
-    let rise = list-ascends (listOf bs) (accepted→none (listOf bs) a .none) in
-    rw (shown-is (listOf bs) a) (made-is (listOf bs) l rise ∙ ap listBytes (list-back bs (both .0) (both .1) small))
+    rw (shown-is (listOf bs) a) (made-is (listOf bs) l a ∙ ap listBytes (accepted-bytes bs small a))

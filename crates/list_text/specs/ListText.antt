@@ -1,27 +1,24 @@
 -- A delay list as plain text: the counts of registers and of pairs in the first line; then, unless all needs are 0, a line for each register,
 -- hold setup; then a line for each pair, launch capture least greatest.
 use Prim.Native.Nat.{ℕ, _+_, _*_}
-use mathlib.Core.Bool.{true, cond}
+use mathlib.Core.Bool.{true, false, cond}
 use mathlib.Core.List.{List, _++_}
-use mathlib.Core.Path.{_≡_}
 use lib.Dec.{ltb, leb, eqb}
-use lib.ListN.{length, getD, take, drop}
+use lib.ListN.{getD, take, drop}
 use Rattle.timing.specs.Limits.{maxRegisters, maxPairs}
 use Rattle.buffers.specs.Run.{run}
 use Rattle.buffers.specs.Over.{zeros}
-use Rattle.words.specs.Bytes.{toBytes}
 use Rattle.refusals.specs.Reply.{told}
 use Rattle.list_format.specs.Read.{readPlaces, reading}
-use Rattle.list_format.specs.Write.{givenCount, givenHold, givenSetup, givenNeeds, writing}
-use Rattle.text_pieces.specs.Pieces.{number, space, newline, numberWidth, Put}
+use Rattle.list_format.specs.Write.{givenCount, givenHold, givenSetup, givenNeeds, writingBy}
+use Rattle.text_pieces.specs.Pieces.{number, space, newline, numberWidth}
 use Rattle.scan.specs.declared.Scanned.{Scanned}
 use Rattle.scan.specs.declared.Scanned.the-variants.{Numbers, Faulty}
 use Rattle.scan.specs.Scan.{lineOf, scanned, storedOf}
 use Rattle.text_pieces.specs.Saying.{Saying, text}
 use Rattle.refusal_text.specs.RefusalText.{lineWidth, refusalLine, refusalLineIn, refusedSaying, faultLine}
-use Rattle.list_bytes.specs.ListBytes.{maxWords, maxBytes, listOf}
-use Rattle.list_text.specs.declared.Made.{Made}
-use Rattle.list_text.specs.declared.Made.the-variants.{Bytes, Fault}
+use Rattle.list_bytes.specs.ListBytes.{maxWords, listOf}
+use Rattle.convert_text.specs.ConvertText.{Product, errorLine, convertedFrom}
 
 -- ---- how long a text can be
 
@@ -86,13 +83,8 @@ shownText bs = told refusedSaying shownSaid (reading (listOf bs) listNumbers)
 
 -- ---- from a text to the bytes of its list
 
--- what a text comes to: the bytes of a list, or a line that says what is wrong
-pub data Product : Type 0 where
-  listBytes : List ℕ → Product
-  errorLine : List ℕ → Product
-
 -- the number of the text, counted from 1, that ends what a refusal is of, and 0 if it is of the whole, where the text has so many needs:
--- 13 is of the needs of a register, 14, 15, 16, 19 and 20 are of a pair, and their place is its index
+-- 13 is of the needs of a register, 14, 15, 16 and 19 are of a pair, and their place is its index
 unfoldable pub lastOf : ℕ → ℕ → ℕ → ℕ
 lastOf needs number place =
     cond (leb maxPairs place) 0 (cond (eqb number 13) (2 * place + 3) (cond (ltb number 14) 0 (needs + 4 * place + 5)))
@@ -106,13 +98,14 @@ refusedLine bs needs number place =
 abbrev pub madeRefused : List ℕ → ℕ → ℕ → ℕ → Product
 madeRefused bs needs number place = errorLine (refusedLine bs needs number place)
 
--- the bytes of all words that writing stores
-abbrev pub madeDone : List ℕ → List ℕ → Product
-madeDone returned stored = listBytes (toBytes stored (length stored))
+-- the words that writing stores, converted: their pairs come in the order of the text
+abbrev pub madeStored : List ℕ → List ℕ → Product
+madeStored returned stored = convertedFrom stored
 
--- from the count of registers, the numbers xs of the pairs and the needs ys, which stand in the text bs; so many of its numbers are needs
+-- from the count of registers, the numbers xs of the pairs in any order and the needs ys, which stand in the text bs; so many of its numbers
+-- are needs
 abbrev pub madeFrom : List ℕ → ℕ → ℕ → List ℕ → List ℕ → Product
-madeFrom bs needs n xs ys = told (madeRefused bs needs) madeDone (writing n xs ys maxWords)
+madeFrom bs needs n xs ys = told (madeRefused bs needs) madeStored (writingBy false n xs ys maxWords)
 
 -- the needs of n registers, of the numbers xs of a text after the first: all are 0 where it has none
 unfoldable pub needsGiven : ℕ → ℕ → List ℕ → List ℕ
@@ -131,18 +124,3 @@ madeOf bs (Numbers count needs) xs = madeWith bs needs (getD xs 0 0) (drop 1 xs)
 -- what is made of a text
 abbrev pub made : List ℕ → Product
 made bs = madeOf bs (scanned true bs) (storedOf true bs)
-
--- the bytes stored
-unfoldable pub storedFor : Product → List ℕ
-storedFor (listBytes bs) = bs
-storedFor (errorLine bs) = bs
-
--- what is returned: which of the two, and the count of its bytes
-unfoldable pub returnedFor : Product → Made
-returnedFor (listBytes bs) = Bytes (length bs)
-returnedFor (errorLine bs) = Fault (length bs)
-
--- the product p is returned as r, and stored in the first places of a buffer that held `was` and holds `now`
-pub record MadeAs (p : Product) (was now : List ℕ) (r : Made) : Type 0 where
-  pub answer : r ≡ returnedFor p
-  pub stored : Put maxBytes (storedFor p) was 0 now (length (storedFor p))

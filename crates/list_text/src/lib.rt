@@ -13,10 +13,11 @@ ghost use Rattle.timing.specs.Limits.{maxRegisters, maxPairs};
 ghost use Rattle.scan.specs.Scan.{maxNumbers, textBytes};
 ghost use Rattle.list_format.specs.Write.{givenNeeds};
 ghost use Rattle.list_text.specs.ListText.{twoWidth, pairWidth, listWidth, shownPlaces, twoLine, fourLine, needsLine, pairLine, textOf};
-ghost use Rattle.list_text.specs.ListText.{listNumbers, shownSaid, shownText, lastOf, refusedLine, madeFrom, madeWith, made, MadeAs};
+ghost use Rattle.list_text.specs.ListText.{listNumbers, shownSaid, shownText, lastOf, refusedLine, madeFrom, madeWith, made};
+ghost use Rattle.convert_text.specs.ConvertText.{MadeAs};
 ghost use Rattle.buffers.specs.Run.{run};
 ghost use Rattle.buffers.specs.Over.{zeros};
-ghost use Rattle.words.specs.Bytes.{toBytes};
+use convert_text::Made;
 use list_bytes::MAX_BYTES;
 use list_bytes::MAX_WORDS;
 use list_format::Reading;
@@ -169,25 +170,6 @@ pub fn show(bytes: &[u8], text: &mut [u8; TEXT_PLACES]) -> Said
     put_words(text, &words[..count])
 }
 
-// The bytes of all words.
-fn put_bytes(out: &mut [u8], words: &[u32]) -> usize
-    requires { ⌜ 4 * length (now words) ≤ length (now out) ⌝ }
-    ensures { λ r. ⌜
-        Put (4 * length (now (words .entry))) (toBytes (now (words .entry)) (length (now (words .entry))))
-        (now (out .entry)) 0 (now (out .exit)) r
-        ⌝ }
-{
-    let count = words.len();
-    words::to_bytes(words, count, out);
-    4 * count
-}
-
-// What a text comes to, with the count of bytes stored: the bytes of its list, or a line that says what is wrong.
-pub enum Made {
-    Bytes(usize),
-    Fault(usize),
-}
-
 // The number of the text that ends what a refusal is of: the needs of a register, or a pair; 0 if it is of the whole.
 fn last_of(needs: usize, number: u32, place: usize) -> usize
     requires { ⌜ needs ≤ maxNumbers ⌝ }
@@ -218,7 +200,8 @@ fn put_refused(out: &mut [u8], text: &[u8], needs: usize, number: u32, place: us
     refusal_text::put_refusal_in(out, number, place, line)
 }
 
-// The bytes of the list that the numbers and the needs make, which stand in the text; so many of its numbers are needs.
+// The bytes of the list that the numbers and the needs make, which stand in the text; so many of its numbers are needs. The pairs come in any
+// order and may repeat: they are converted.
 fn put_made(
     out: &mut [u8],
     text: &[u8],
@@ -233,15 +216,12 @@ fn put_made(
         ⌝ }
 {
     let mut words = [0u32; MAX_WORDS];
-    match write_list::write(n, numbers, given, &mut words) {
+    match write_list::write_stored(n, numbers, given, &mut words) {
         Writing::Refused(number, place) => {
             let size = put_refused(out, text, needs, number, place);
             Made::Fault(size)
         }
-        Writing::Written(count) => {
-            let size = put_bytes(out, &words[..count]);
-            Made::Bytes(size)
-        }
+        Writing::Written(count) => convert_text::put_converted(out, &words[..count]),
     }
 }
 
@@ -284,8 +264,8 @@ fn put_numbers(out: &mut [u8], text: &[u8], needs: usize, numbers: &[u32]) -> Ma
     )
 }
 
-// The bytes of the list that a text describes, in the first places of `out`; later places keep their contents. Of a faulty text, or of
-// numbers that make no list, one line says what is wrong.
+// The bytes of the list that a text describes, in the first places of `out`; later places keep their contents. The pairs of the text come in
+// any order; those of the same registers are joined. Of a faulty text, or of numbers that make no list, one line says what is wrong.
 pub fn make(text: &[u8], out: &mut [u8; MAX_BYTES]) -> Made
     ensures { λ r. ⌜ MadeAs (made (now (text .entry))) (now (out .entry)) (now (out .exit)) r ⌝ }
 {

@@ -1,9 +1,9 @@
 // The programs between delay lists and texts. Each reads from the file that its last argument names, or from standard input, writes what
 // it makes to `output`, and what is wrong to `errors`.
 use arguments::Argument;
+use convert_text::Made;
 use libc::PATH_MAX;
 use list_bytes::MAX_BYTES;
-use list_text::Made;
 use scan::TEXT_BYTES;
 use streams::Got;
 use streams::Source;

@@ -1,9 +1,9 @@
 -- `put_bytes`: the bytes of all words are one piece from the first place on.
 use native.Mathlib.Omega.{arith}
-use Rattle.list_text.proofs.ListTextLaws.{bytes-put}
+use Rattle.convert_text.proofs.ConvertTextLaws.{bytes-put}
 use borrow.Author.Needs.{needs}
-use Rattle.list_text.proofs.put_bytes.Statement.{statement}
-use Rattle.list_text.proofs.put_bytes.Tie as tie
+use Rattle.convert_text.proofs.put_bytes.Statement.{statement}
+use Rattle.convert_text.proofs.put_bytes.Tie as tie
 
 returns : tie.Need-returns
 returns c =
