@@ -12,6 +12,7 @@ use Rattle.timing.specs.Limits.{maxRegisters, maxPairs}
 use Rattle.buffers.specs.Over.{over, zeros}
 use Rattle.buffers.proofs.FillLaws.{filled-front, filled-fits}
 use Rattle.buffers.proofs.PadLaws.{zeros-size}
+use Rattle.words.specs.Bytes.{toBytes}
 use Rattle.refusals.specs.Checks.{firstFault, orCheck, faultAfter}
 use Rattle.refusals.specs.Reply.{numbers, done, refused, replyOf, bufferAfter, told}
 use Rattle.refusals.specs.declared.Fault.the-variants.{None, At}
@@ -27,7 +28,8 @@ use Rattle.list_format.specs.declared.Writing.the-variants.{Written, Refused as
 use Rattle.list_format.proofs.NeedsLaws.{needs-length}
 use Rattle.list_format.proofs.ListLaws.{numbers-in}
 use Rattle.list_format.proofs.ReadBack.{numbers-length}
-use Rattle.list_format.proofs.WriteBack.{given-in, words-length}
+use Rattle.list_format.proofs.WriteBack.{given-in, words-length, list-back}
+use Rattle.converter.specs.Convert.{converted}
 use Rattle.text_pieces.specs.Pieces.{Put}
 use Rattle.text_pieces.specs.Saying.{SaidAs, text as sayText}
 use Rattle.text_pieces.specs.declared.Said.the-variants.{Text, Trouble}
@@ -39,10 +41,10 @@ use Rattle.scan.specs.declared.Scanned.the-variants.{Numbers, Faulty}
 use Rattle.scan.specs.Scan.{maxNumbers, ScanAs}
 use Rattle.scan.proofs.ScanLaws.{lent-is}
 use Rattle.scan.proofs.StoredLaws.{stored-front, stored-size}
-use Rattle.convert_text.specs.ConvertText.{errorLine, convertedFrom, MadeAs}
+use Rattle.convert_text.specs.ConvertText.{listBytes, errorLine, convertedFrom, MadeAs}
 use Rattle.convert_text.specs.declared.Made.{Made}
 use Rattle.convert_text.specs.declared.Made.the-variants.{Fault}
-use Rattle.convert_text.proofs.ConvertTextLaws.{made-fault}
+use Rattle.convert_text.proofs.ConvertTextLaws.{made-fault, stored-converts}
 use Rattle.list_text.specs.ListText.{listWidth, shownPlaces, textOf, listNumbers, shownSaid}
 use Rattle.list_text.specs.ListText.{refusedLine, madeRefused, madeStored, madeFrom, needsGiven, madeWith, madeOf, made}
 
@@ -189,6 +191,14 @@ module _ {n : ℕ} {xs ys now : List ℕ} {r : Writing} (a : WrittenBy false n x
     make-written bs needs made =
         let here : madeFrom bs needs n xs ys ≡ convertedFrom (take count now) = rw (written, words-are) in
         rw here made
+
+-- numbers that can be written are not refused after that
+pub made-converts : (bs : List ℕ) (needs n : ℕ) (xs ys : List ℕ) → firstFault (writeChecks false n xs ys maxWords) ≡ None
+    → let ws : List ℕ = converted (wordsOf n xs ys) in madeFrom bs needs n xs ys ≡ listBytes (toBytes ws (length ws))
+unfolding writingBy told
+made-converts bs needs n xs ys e =
+    let written = answered-done (writeChecks false n xs ys maxWords) (done ((endPlace n xs ys + 1) ∷ []) (wordsOf n xs ys)) e in
+    rw written (stored-converts (wordsOf n xs ys) (list-back n xs ys (given-in false n xs ys maxWords e)))
 
 -- ---- a text without needs
 

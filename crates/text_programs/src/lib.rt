@@ -18,6 +18,14 @@ fn say(buffer: &[u8], said: Said, output: i32, errors: i32) {
     }
 }
 
+// What was made in the first bytes of a buffer: the bytes of a list, or what is wrong.
+fn give(buffer: &[u8], made: Made, output: i32, errors: i32) {
+    match made {
+        Made::Bytes(count) => write_out(output, streams::first_of(buffer, count), errors),
+        Made::Fault(count) => write_out(errors, streams::first_of(buffer, count), errors),
+    }
+}
+
 // ---- make_list
 
 fn make_usage(to: i32, errors: i32) {
@@ -34,7 +42,7 @@ fn make_usage(to: i32, errors: i32) {
     );
     write_out(
         to,
-        b"greatest. Commas count as spaces, # begins a comment.\n",
+        b"greatest. Pairs come in any order; those of the same registers are joined. Commas count as spaces, # begins a comment.\n",
         errors,
     );
 }
@@ -42,10 +50,8 @@ fn make_usage(to: i32, errors: i32) {
 // The bytes of the list that a text describes.
 fn make_received(text: &[u8; TEXT_BYTES + 1], got: usize, output: i32, errors: i32) {
     let mut out = [0u8; MAX_BYTES];
-    match list_text::make(streams::text_received(text, got), &mut out) {
-        Made::Bytes(count) => write_out(output, streams::first_of(&out, count), errors),
-        Made::Fault(count) => write_out(errors, streams::first_of(&out, count), errors),
-    }
+    let made = list_text::make(streams::text_received(text, got), &mut out);
+    give(&out, made, output, errors);
 }
 
 // From the file with that name, or standard input.
@@ -110,6 +116,51 @@ pub fn show_list(output: i32, errors: i32) {
         Source::Help => show_usage(output, errors),
         Source::Misused => show_usage(errors, errors),
         Source::Given(input, size) => show_from(
+            input,
+            streams::name_of(&path, size),
+            output,
+            errors,
+        ),
+    }
+}
+
+// ---- convert_list
+
+fn convert_usage(to: i32, errors: i32) {
+    write_out(to, b"use: convert_list [FILE]\n", errors);
+    write_out(
+        to,
+        b"Puts the pairs of the delay list in FILE, or on standard input, in the order that all jobs ask for: by launch, then capture.\n",
+        errors,
+    );
+    write_out(
+        to,
+        b"Those of the same registers are joined, with the smaller least and the larger greatest delay. Writes the bytes of that list.\n",
+        errors,
+    );
+}
+
+fn convert_received(bytes: &[u8; MAX_BYTES + 1], got: usize, output: i32, errors: i32) {
+    let mut out = [0u8; MAX_BYTES];
+    let made = convert_text::convert_bytes(streams::list_received(bytes, got), &mut out);
+    give(&out, made, output, errors);
+}
+
+pub fn convert_from(input: i32, name: &[u8], output: i32, errors: i32) {
+    let mut bytes = [0u8; MAX_BYTES + 1];
+    match streams::receive(input, name, &mut bytes, errors) {
+        Got::Nothing => {}
+        Got::Bytes(got) => convert_received(&bytes, got, output, errors),
+    }
+}
+
+pub fn convert_list(output: i32, errors: i32) {
+    let mut path = [0u8; PATH_MAX];
+    match streams::input_of(0, &mut path, errors) {
+        Source::Nothing => {}
+        Source::Help => convert_usage(output, errors),
+        Source::Misused => convert_usage(errors, errors),
+        Source::Given(input, size) => convert_from(
             input,
             streams::name_of(&path, size),
             output,

@@ -1,4 +1,4 @@
--- `make_received`: the buffer keeps its length, and what was said in it can be lent.
+-- `make_received`: the buffer keeps its length, and what was made in it can be lent.
 use mathlib.Core.Path.{sym, _∙_}
 use Rattle.text_pieces.proofs.PutLaws.{put-size}
 use borrow.Author.Needs.{needs}
@@ -9,7 +9,5 @@ pub make-received-spec : {M : Type 1} → statement M
 make-received-spec =
     tie.close
     (tie.spec
-    (λ c κs. search needs) (λ c κs. search needs) (λ c. search needs)
-    (λ c. sym (put-size (c .before .before .before .before .make .ensures .stored) ∙ search needs)) (λ c κs. search needs) (λ c κs. search needs)
-    (λ c. search needs) (λ c. sym (put-size (c .before .before .before .before .make .ensures .stored) ∙ search needs)) (λ c κs. search needs)
-    (λ c κs. search needs) (λ c. search needs) (λ c. search needs))
+    (λ c κs. search needs) (λ c κs. search needs) (λ c. sym (put-size (c .before .make .ensures .stored) ∙ search needs)) (λ c κs. search needs)
+    (λ c. search needs))
