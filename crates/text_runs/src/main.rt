@@ -1,9 +1,10 @@
 // The programs on what they refuse or find wrong: texts that are empty, faulty, cut at the end of a line, or name register 2 of 2; needs
-// after a pair, too large, above a least delay, or of one register of two; pairs out of order; lists that are refused, and two that are
-// shown, without needs and with them; no split; schedules that break hold and setup, are faulty, have a timing too few or one too large;
-// schedules with margins of each sign, and of a list without pairs; periods and offsets out of range; a period that works, and one that
-// is blocked by a hold rule too; a text that is too long, a directory, output that cannot be written, and no arguments. Then texts
-// without needs, with needs in the last line, and of the largest size, with commas.
+// after a pair, too large, above a least delay, or of one register of two; lists that are refused, and two that are shown, without needs
+// and with them; lists that are not converted; no split; schedules that break hold and setup, are faulty, have a timing too few or one
+// too large; schedules with margins of each sign, and of a list without pairs; periods and offsets out of range; a period that works, and
+// one that is blocked by a hold rule too; a text that is too long, a directory, output that cannot be written, and no arguments. Then
+// texts without needs, with needs in the last line, and with pairs in another order, one of them twice; such a list, and one in order,
+// converted; and a text of the largest size, with commas.
 use libc::STDOUT_FILENO;
 use text_programs::check_from;
 use text_programs::make_from;
@@ -15,6 +16,10 @@ fn make(name: &[u8]) {
 
 fn show(name: &[u8]) {
     text_programs::show_from(os::open_read(name), name, STDOUT_FILENO, STDOUT_FILENO);
+}
+
+fn convert(name: &[u8]) {
+    text_programs::convert_from(os::open_read(name), name, STDOUT_FILENO, STDOUT_FILENO);
 }
 
 fn split(period: u32, offset: u32) {
@@ -65,7 +70,6 @@ fn needs() {
     make(b"after");
     make(b"need");
     make(b"hold");
-    make(b"order");
     make(b"fewer");
 }
 
@@ -76,6 +80,9 @@ fn lists() {
     show(b"held");
     show(b"twice");
     show(b"refused");
+    show(b"order");
+    convert(b"refused");
+    convert(b"damaged");
     text_programs::free_from(
         os::open_read(b"refused"),
         b"refused",
@@ -132,5 +139,8 @@ fn main() {
     text_programs::check_schedule(STDOUT_FILENO, STDOUT_FILENO);
     make(b"plain");
     make(b"last");
+    make(b"any");
+    convert(b"order");
+    convert(b"list");
     make(b"largest");
 }
