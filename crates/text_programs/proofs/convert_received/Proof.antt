@@ -9,5 +9,5 @@ pub convert-received-spec : {M : Type 1} → statement M
 convert-received-spec =
     tie.close
     (tie.spec
-    (λ c κs. search needs) (λ c κs. search needs) (λ c. sym (put-size (c .before .convert-bytes .ensures .stored) ∙ search needs)) (λ c κs. search needs)
-    (λ c. search needs))
+    (λ c κs. search needs) (λ c κs. search needs) (λ c. sym (put-size (c .before .convert-bytes .ensures .stored) ∙ search needs))
+    (λ c κs. search needs) (λ c. search needs))
