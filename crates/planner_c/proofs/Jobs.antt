@@ -14,7 +14,7 @@ use Rattle.refusals.specs.Checks.{Check, orCheck, faultAfter, eachCheck}
 use Rattle.refusals.specs.declared.Fault.{Fault}
 use Rattle.refusals.specs.declared.Fault.the-variants.{None, At}
 use Rattle.refusals.specs.Reply.{Reply, Outcome, done, replyOf, unless, answered}
-use Rattle.list_format.specs.Lists.{listChecks, headChecks, needChecks, blockChecks, pairChecks, endChecks, pairsChecks, bodyChecks}
+use Rattle.list_format.specs.Lists.{checksBy, headChecks, needChecks, blockChecks, pairChecks, endChecks, pairsChecks, bodyChecks}
 use Rattle.list_format.specs.Lists.{registers, pairCount, needWords, needsOf, noNeeds, pairPlace, placeBy, pairs, word}
 use Rattle.list_format.specs.Read.{reading, readReply}
 use Rattle.list_format.specs.Write.{writingBy, writing, writeReply, countChecks, givenNeedChecks, givenChecks, givenPairs, givenBody, writeChecks}
@@ -24,6 +24,9 @@ use Rattle.list_format.specs.declared.Reading.{Reading}
 use Rattle.list_format.specs.declared.Reading.the-variants.{Read, Refused as NotRead}
 use Rattle.list_format.specs.declared.Writing.{Writing}
 use Rattle.list_format.specs.declared.Writing.the-variants.{Written, Refused as NotWritten}
+use Rattle.converter.specs.Convert.{converting, convertReply, ConvertedAs}
+use Rattle.converter.specs.declared.Converting.{Converting}
+use Rattle.converter.specs.declared.Converting.the-variants.{Converted, Refused as NotConverted}
 use Rattle.words.specs.Signed.{signedWord, signedOf}
 use Rattle.words.proofs.SignedLaws.{signed-back}
 use Rattle.checker.specs.Check.{checking, answerFor, ruleNumber, smallestNumbers, checkValues, checkReply, reported, IsSmallest, CheckedAs}
@@ -89,23 +92,28 @@ done-told xs ys h = h
 
 -- ---- each job
 
-list-numbered : (ws : List ℕ) → numbered (listChecks ws) ≡ true
+list-numbered : (asked : Bool) (ws : List ℕ) → numbered (checksBy asked ws) ≡ true
 unfolding numbered
-list-numbered ws =
+list-numbered asked ws =
     let n = registers ws in
     let m = pairCount ws in
     let needs = needWords ws in
-    append-numbered (headChecks (word ws 0) (word ws 1) (length ws)) (bodyChecks true ws n m) refl
-    (append-numbered (blockChecks ws needs) (pairsChecks true ws n m)
+    append-numbered (headChecks (word ws 0) (word ws 1) (length ws)) (bodyChecks asked ws n m) refl
+    (append-numbered (blockChecks ws needs) (pairsChecks asked ws n m)
     (append-numbered (eachCheck (needChecks ws) 0 needs) ((ltb 0 needs && noNeeds (needsOf ws), 18, 1) ∷ [])
     (each-numbered (needChecks ws) (λ r. refl) 0 needs) refl)
-    (append-numbered (eachCheck (pairChecks true ws n) 0 m) (endChecks ws (pairPlace ws m))
-    (each-numbered (pairChecks true ws n) (λ k. refl) 0 m) refl))
+    (append-numbered (eachCheck (pairChecks asked ws n) 0 m) (endChecks ws (pairPlace ws m))
+    (each-numbered (pairChecks asked ws n) (λ k. refl) 0 m) refl))
 
--- the checks of the list, then those of the call
+-- the checks of the list, whether it is asked for its order or not, then those of the call
+checks-then : (asked : Bool) (ws : List ℕ) (cs : List Check) (o : Outcome) → numbered cs ≡ true → Tellable (replyOf o)
+    → Tellable (replyOf (answered (checksBy asked ws ++ cs) o))
+checks-then asked ws cs o e t =
+    answered-told (checksBy asked ws ++ cs) o (append-numbered (checksBy asked ws) cs (list-numbered asked ws) e) t
+
 list-then : (ws : List ℕ) (cs : List Check) (o : Outcome) → numbered cs ≡ true → Tellable (replyOf o)
-    → Tellable (replyOf (answered (listChecks ws ++ cs) o))
-list-then ws cs o e t = answered-told (listChecks ws ++ cs) o (append-numbered (listChecks ws) cs (list-numbered ws) e) t
+    → Tellable (replyOf (answered (checksBy true ws ++ cs) o))
+list-then = checks-then true
 
 pub read-told : (ws : List ℕ) (room : ℕ) → Tellable (replyOf (reading ws room))
 unfolding reading numbered
@@ -122,6 +130,10 @@ write-told n xs ys room =
     (append-numbered (eachCheck (givenChecks true n xs ys) 0 m) ((ltb room (placeBy (givenNeeds n ys) m + 1), 2, 0) ∷ [])
     (each-numbered (givenChecks true n xs ys) (λ k. refl) 0 m) refl)))
     (done-told _ _ (omega arith))
+
+pub convert-told : (ws : List ℕ) (room : ℕ) → Tellable (replyOf (converting ws room))
+unfolding converting numbered
+convert-told ws room = checks-then false ws _ _ refl (done-told _ _ (omega arith))
 
 few : (r : Checking) → length (checkValues r) ≤ valuePlaces
 unfolding checkValues smallestNumbers
@@ -177,6 +189,14 @@ pub write-telling : {n : ℕ} {xs ys was now : List ℕ} → Telling writeReply 
 unfolding writeReply writeAnswer answerBy
 write-telling {n} {xs} {ys} {was} =
     telling (λ a p. elim a [ Written count ↦ refl | NotWritten number place ↦ refl ]) (write-told n xs ys (length was)) (λ a p. p .reply)
+
+unfoldable pub convertAnswer : Reply → Converting
+convertAnswer = answerBy NotConverted (λ xs. Converted (getD xs 0 0))
+
+pub convert-telling : {ws was now : List ℕ} → Telling convertReply convertAnswer (ConvertedAs ws was now)
+unfolding convertReply convertAnswer answerBy
+convert-telling {ws} {was} =
+    telling (λ a p. elim a [ Converted count ↦ refl | NotConverted number place ↦ refl ]) (convert-told ws (length was)) (λ a p. p .reply)
 
 unfoldable pub ruleOf : ℕ → Rule
 ruleOf n = cond (eqb n 0) Setup Hold
@@ -282,3 +302,12 @@ module _ {ws : List ℕ} {period : ℕ} {answer answer′ scratch scratch′ : L
       → WhyAs ws period answer answer′ scratch scratch′ (Blocked register first second)
   unfolding replyFrom whyAnswer answerBy
   why-read w = promised-read why-telling w
+
+-- ---- and of the converter: the list in the first places stands for the old one
+
+module _ {ws was now : List ℕ} where
+  pub convert-read : {count : ℕ}
+      → AnswerCoded convertReply (ConvertedAs ws was now) resultStatus (1 ∷ count ∷ 0 ∷ 0 ∷ 0 ∷ 0 ∷ 0 ∷ 0 ∷ 0 ∷ [])
+      → ConvertedAs ws was now (Converted count)
+  unfolding replyFrom convertAnswer answerBy
+  convert-read w = promised-read convert-telling w

@@ -1,4 +1,4 @@
-// The six jobs for C and Rust: plain numbers, slices as pointer and length, and a reply of nine places.
+// The six jobs and the converter for C and Rust: plain numbers, slices as pointer and length, and a reply of nine places.
 // Each contract is the job's own record, of the answer that status and reply tell (`specs/Coded.antt`).
 // `proofs/Apart.antt` proves that no two answers of a job are told alike, so that the record holds of what the caller reads.
 ghost use mathlib.Core.Path.{_≡_};
@@ -6,6 +6,7 @@ ghost use mathlib.Core.List.{[], _∷_};
 ghost use Rattle.list_format.specs.Read.{readReply};
 ghost use Rattle.list_format.specs.Write.{writeReply};
 ghost use Rattle.list_format.specs.RoundTrip.{ReadAs, WrittenAs};
+ghost use Rattle.converter.specs.Convert.{convertReply, ConvertedAs};
 ghost use Rattle.checker.specs.Check.{checkReply, ruleNumber, CheckedAs};
 ghost use Rattle.checker.specs.declared.Checking.the-variants.{Admissible, Broken};
 ghost use Rattle.free_schedule.specs.FreeCall.{freeReply, FreeAs};
@@ -19,6 +20,7 @@ use blocking::Reason;
 use checker::Checking;
 use checker::Rule;
 use checker::Smallest;
+use converter::Converting;
 use free_schedule::FreeAnswer;
 use list_format::Reading;
 use list_format::Writing;
@@ -106,6 +108,22 @@ pub extern "C" fn darnerflax_write(
     match write_list::write(n, numbers, needs, answer) {
         Writing::Refused(number, place) => refuse(reply, number, place),
         Writing::Written(count) => tell(reply, 1, count as u64, 0, 0, 0, 0),
+    }
+}
+
+// Converts a stored list, whose pairs come in any order and may repeat, into one whose pairs ascend. Reply: the count of words, which fill
+// the first places of `answer`.
+#[no_mangle]
+pub extern "C" fn darnerflax_convert(
+    words: &[u32],
+    answer: &mut [u32],
+    reply: &mut [u64; REPLY_PLACES],
+) -> u32
+    ensures { λ r. ⌜ AnswerCoded convertReply (ConvertedAs (now (words .entry)) (now (answer .entry)) (now (answer .exit))) r (now (reply .exit)) ⌝ }
+{
+    match converter::convert(words, answer) {
+        Converting::Refused(number, place) => refuse(reply, number, place),
+        Converting::Converted(places) => tell(reply, 1, places as u64, 0, 0, 0, 0),
     }
 }
 
