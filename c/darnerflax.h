@@ -11,14 +11,16 @@
  *
  * Refusals of the list: 11 count of words, 12 head, 13 kind of a word, spare bits or a need above 9,999, 14 register,
  * 15 delay, 16 least delay above greatest, 17 end word, 18 a block of needs that are all zero, 19 least delay below the
- * hold of its capture register, 20 a pair that is not above the one before it by launch register, then capture.
+ * hold of its capture register, 20 a pair that is not above the one before it by launch register, then capture;
+ * darnerflax_convert puts such a list in order.
  * Of the call: 3 period, offset or timings, 2 `answer` too short, 1 `scratch` too short.
  * The list is checked first: head, needs (13, then 18), pair by pair (13, 14, 15, 16, 19, 20), end; then 3, 2, 1. The
  * first that fits is returned.
  *
  * Status and reply tell one answer of the job, and all that the job promises of it is proved of the C function too:
- * a plan that nobody beats, a list that reads back as it was written, a check that passes the admissible schedules
- * and no other and reports the smallest margin of all, chains that show why a period can't be had.
+ * a plan that nobody beats, a list that reads back as it was written, a converted list with the answers of the stored one,
+ * a check that passes the admissible schedules and no other and reports the smallest margin of all, chains that show why a
+ * period can't be had.
  *
  * n is the count of registers (1 to 512), m the count of pairs (0 to 2,048). Times are in picoseconds: delays up to
  * 1,000,000, needs up to 9,999, periods and offsets up to 1,009,999, timings up to 516,109,489.
@@ -81,6 +83,16 @@ uint32_t darnerflax_write(uint32_t n,
                           const uint32_t *needs, size_t needs_len,
                           uint32_t *answer, size_t answer_len,
                           uint64_t reply[DARNERFLAX_REPLY]);
+
+/* Converts a stored list, whose pairs come in any order and may repeat, into one whose pairs rise by launch register, then
+ * capture. Pairs of the same registers become one, with the smaller least and the larger greatest delay; needs are kept.
+ * By the rules, the periods, both schedules and every answer to a period and an offset stay the same.
+ * Value: the count of words, which fill the first places of `answer`; later places are kept. They are never more than the
+ * stored list has; one whose pairs rise comes out as it is. Refusals: 11 to 19, there is no 20; 2 for fewer places than
+ * there are words. */
+uint32_t darnerflax_convert(const uint32_t *words, size_t words_len,
+                            uint32_t *answer, size_t answer_len,
+                            uint64_t reply[DARNERFLAX_REPLY]);
 
 /* Checks a schedule, a timing for each register, at a period.
  * Values: the smallest margin of all, with sign, the first pair that has it, and its rule, 0 setup or 1 hold (setup comes
