@@ -172,6 +172,7 @@ extern "C" {
         answer_len: usize,
         reply: *mut Reply,
     ) -> u32;
+    fn darnerflax_convert(words: *const u32, words_len: usize, answer: *mut u32, answer_len: usize, reply: *mut Reply) -> u32;
     fn darnerflax_check(
         words: *const u32,
         words_len: usize,
@@ -248,6 +249,25 @@ pub fn write(n: u32, numbers: &[u32], needs: &[u32], answer: &mut [u32]) -> Resu
             reply,
         )
     })?;
+    Ok(count as usize)
+}
+
+/// Converts a stored list, whose pairs come in any order and may repeat, into one whose pairs rise by launch, then capture. Pairs
+/// of the same registers become one, with the smaller least and the larger greatest delay; what the list asks for stays the
+/// same. It is refused as it would be read, except that there is no 20.
+pub fn convert(words: &[u32]) -> Result<Vec<u32>, Refusal> {
+    // no list is longer after it is converted
+    let mut answer = vec![0; words.len().min(MAX_WORDS)];
+    let count = convert_into(words, &mut answer)?;
+    answer.truncate(count);
+    Ok(answer)
+}
+
+/// The same into a buffer: the words fill the first places of `answer`, and their count is returned.
+pub fn convert_into(words: &[u32], answer: &mut [u32]) -> Result<usize, Refusal> {
+    // SAFETY: as for `read`.
+    let [_, count, ..] =
+        told(|reply| unsafe { darnerflax_convert(words.as_ptr(), words.len(), answer.as_mut_ptr(), answer.len(), reply) })?;
     Ok(count as usize)
 }
 

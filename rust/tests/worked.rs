@@ -74,6 +74,21 @@ fn pairs_that_do_not_rise() {
     assert_eq!(written(&[0, 0, 1, 3, 1, 0, 1, 3, 0, 1, 7, 10]), Err(Refusal { number: 20, place: 2 }));
 }
 
+/// 0-1 7/10 and 0-1 2/4, through the converter: 0-1 2/10. Pairs of P in the other order come out as P.
+#[test]
+fn pairs_converted() {
+    let twice = [0x2000_2002, 0x4000_0001, 0x6000_0007, 0x8000_000a, 0x4000_0001, 0x6000_0002, 0x8000_0004, 0xe000_201b];
+    let once = convert(&twice).unwrap();
+    assert_eq!(once, list(2, &[0, 1, 2, 10]));
+    assert_eq!(planned(&once), ([10, 8, 8, 2], vec![0, 2], vec![0, 2]));
+    let below = [0x2000_2002, 0x4000_0400, 0x6000_0001, 0x8000_0003, 0x4000_0001, 0x6000_0007, 0x8000_000a, 0xe000_2418];
+    assert_eq!(convert(&below), Ok(P.to_vec()));
+    let mut answer = [7; 6];
+    assert_eq!((convert_into(&twice, &mut answer), &answer[..5], answer[5]), (Ok(5), &once[..], 7));
+    assert_eq!(convert_into(&twice, &mut answer[..4]), Err(Refusal { number: 2, place: 0 }));
+    assert_eq!(convert(&twice[..7]), Err(Refusal { number: 11, place: 0 }));
+}
+
 /// The common period takes the greatest delay and the setup of the capture register, and a hold takes off from what a register
 /// may be later. With no hold to take off, 0-1 10/10 goes down to what the setup needs.
 #[test]
@@ -202,6 +217,8 @@ fn nothing_lent() {
     assert_eq!(read(&[], &mut []), Err(short));
     assert_eq!(write(1, &[], &[], &mut []), Err(short));
     assert_eq!(write(1, &[], &[0, 0], &mut []), Err(Refusal { number: 2, place: 0 }));
+    assert_eq!(convert_into(&[], &mut []), Err(short));
+    assert_eq!(convert(&[]), Err(short));
     assert_eq!(check(&[], 1, &[]), Err(short));
     assert_eq!(free(&[], &mut []), Err(short));
     assert_eq!(split(&[], 1, 0, &mut [], &mut []), Err(short));

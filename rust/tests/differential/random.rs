@@ -106,6 +106,25 @@ pub fn exact_net(random: &mut Random, n: usize, m: usize, delay: u32, need: u32)
     net.ordered()
 }
 
+/// The pairs of a net in any order or from the last to the first, with up to `repeats` more of the same registers, whose delays the
+/// list allows.
+pub fn stored_net(random: &mut Random, net: &Net, repeats: usize, delay: u32) -> Net {
+    let mut stored = net.clone();
+    let count = if net.pairs.is_empty() { 0 } else { random.below(repeats + 1) };
+    for _ in 0..count {
+        let Pair { launch, capture, .. } = random.pick(&net.pairs);
+        let hold = net.needs[capture].hold;
+        let least = hold + random.upto(delay - hold);
+        stored.pairs.push(Pair { launch, capture, least, greatest: least + random.upto(delay - least) });
+    }
+    match random.below(4) {
+        0 => stored.pairs.reverse(),
+        1 => {}
+        _ => shuffle(random, &mut stored.pairs),
+    }
+    stored
+}
+
 /// Needs up to `need`: in half of all cases none at all, else of one register, holds or setups only, or both; no hold is above `delay`.
 fn needs(random: &mut Random, n: usize, delay: u32, need: u32) -> Vec<Need> {
     let kind = random.below(8);

@@ -112,7 +112,17 @@ fn block(words: &[u32]) -> Result<Vec<Need>, Refusal> {
     Ok(needs)
 }
 
+/// A list whose pairs rise.
 pub fn decode(words: &[u32]) -> Result<Net, Refusal> {
+    decode_by(words, true)
+}
+
+/// A stored list, whose pairs may come in any order and repeat.
+pub fn decode_stored(words: &[u32]) -> Result<Net, Refusal> {
+    decode_by(words, false)
+}
+
+fn decode_by(words: &[u32], rising: bool) -> Result<Net, Refusal> {
     let [head, second, ..] = words else { return refuse(11, 0) };
     let (m, n) = ((head & 0xfff) as usize, (head >> 12 & 0x3ff) as usize);
     if head >> 22 != 0b001_0000000 || !(1..=512).contains(&n) || m > 2_048 {
@@ -134,7 +144,9 @@ pub fn decode(words: &[u32]) -> Result<Net, Refusal> {
         let [link, least, greatest] = [three[0] & 0xf_ffff, three[1] & 0x1fff_ffff, three[2] & 0x1fff_ffff];
         let p = Pair { launch: link as usize / 1_024, capture: link as usize % 1_024, least, greatest };
         values(&needs, &p, [at, at + 1, at + 2])?;
-        rises(pairs.last(), &p, at)?;
+        if rising {
+            rises(pairs.last(), &p, at)?;
+        }
         pairs.push(p);
     }
     let end = words[last];
