@@ -17,7 +17,6 @@ use Rattle.ordering.specs.Order.{Ascends}
 use Rattle.ordering.proofs.OrderLaws.{ordered-length}
 use Rattle.refusals.specs.Checks.{firstFault}
 use Rattle.refusals.specs.Reply.{numbers, done, replyOf, bufferAfter, told}
-use Rattle.refusals.specs.declared.Fault.the-variants.{None}
 use Rattle.refusals.proofs.CheckLaws.{both-pass, passed}
 use Rattle.refusals.proofs.ReplyLaws.{numbers-none, numbers-done, told-refusal}
 use Rattle.list_format.specs.Lists.{word, registers, pairCount, needWordsBy, needWords, writtenAt, storedChecks, IsAccepted}

@@ -1,8 +1,8 @@
 -- What is shown of an accepted list is read back to the same bytes: each line is read to the two needs of its register (`two-reads`) or to the
 -- four numbers of its pair (`four-reads`), the whole text to the needs and the numbers of the list, and those write the same words
 -- (`read-back` of list_format), which converting keeps (`accepted-kept`). Where there are no lines of needs, all needs are 0, and are taken to be.
-use Prim.Native.Nat.{ℕ, zero, suc, _+_, _-_, _*_, _/_, _%_, _^_, _≤_, _<_}
-use mathlib.Core.Bool.{Bool, true, false, cond}
+use Prim.Native.Nat.{ℕ, zero, suc, _+_, _-_, _*_, _^_, _≤_, _<_}
+use mathlib.Core.Bool.{Bool, true, false}
 use mathlib.Core.List.{List, [], _∷_, _++_, append-nil}
 use mathlib.Core.Path.{_≡_, refl, sym, _∙_, ap}
 use native.Mathlib.Omega.{arith}
