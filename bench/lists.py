@@ -198,6 +198,18 @@ def decode(words):
                             for pair, least, greatest in zip(body[0::3], body[1::3], body[2::3])]
 
 
+def stored():
+    """Full-size lists of 512 registers in an order that the converter has to mend, or with pairs that it has to join."""
+    n, pairs = drawn(512, 2048, 0, 100, 1)
+    yield 'in order', (n, pairs)
+    yield 'the other way round', (n, pairs[::-1])
+    shuffled = pairs[:]
+    random.Random(5).shuffle(shuffled)
+    yield 'shuffled', (n, shuffled)
+    yield 'each pair four times', (n, (shuffled[:512] * 4))
+    yield 'one pair only', (n, [pairs[0][:2] + pair[2:] for pair in pairs])
+
+
 def shapes():
     """Full-size lists of every shape."""
     yield 'random', drawn(512, 2048, 0, 100, 1)

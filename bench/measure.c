@@ -1,7 +1,9 @@
 /* Plans one list: measure ours|plain|sat FILE REPEATS. Prints the nanoseconds of the fastest call, the common, free and
  * two-timing period and the offset, and the timings. By SAT only the two-timing period and its offset are sought.
  * Or says why no split works at a period: measure why|plain_why FILE REPEATS PERIOD. Prints the nanoseconds, then 0, or 1, a
- * register, the lengths of the two chains at it, and their steps. */
+ * register, the lengths of the two chains at it, and their steps.
+ * Or reads or converts a list: measure read|convert|plain_convert FILE REPEATS. Prints the nanoseconds, then the counts of
+ * registers and of pairs, or the count of words and the words. */
 #include <ccadical.h>
 #include <inttypes.h>
 #include <stdio.h>
@@ -13,7 +15,7 @@
 #include "plain.h"
 
 static uint32_t words[DARNERFLAX_MAX_WORDS];
-static uint32_t answer[DARNERFLAX_MAX_CHAINS];
+static uint32_t answer[DARNERFLAX_MAX_NUMBERS];
 static uint32_t scratch[DARNERFLAX_MAX_SCRATCH];
 
 static uint64_t now(void) {
@@ -38,6 +40,16 @@ static void ours(size_t count, uint64_t numbers[4]) {
 static void why(size_t count, uint32_t period, uint64_t numbers[4]) {
     uint64_t reply[DARNERFLAX_REPLY];
     take(darnerflax_why_not(words, count, period, answer, DARNERFLAX_MAX_CHAINS, scratch, DARNERFLAX_MAX_SCRATCH, reply), reply, numbers);
+}
+
+static void read_list(size_t count, uint64_t numbers[4]) {
+    uint64_t reply[DARNERFLAX_REPLY];
+    take(darnerflax_read(words, count, answer, DARNERFLAX_MAX_NUMBERS, reply), reply, numbers);
+}
+
+static void convert(size_t count, uint64_t numbers[4]) {
+    uint64_t reply[DARNERFLAX_REPLY];
+    take(darnerflax_convert(words, count, answer, DARNERFLAX_MAX_WORDS, reply), reply, numbers);
 }
 
 /* The two-timing period by halving, with the SAT solver as the judge of each period. */
@@ -76,6 +88,12 @@ static void call(const char *who, size_t count, uint32_t period, uint64_t number
         why(count, period, numbers);
     else if (strcmp(who, "plain_why") == 0)
         plain_why_not(words, period, answer, numbers);
+    else if (strcmp(who, "read") == 0)
+        read_list(count, numbers);
+    else if (strcmp(who, "convert") == 0)
+        convert(count, numbers);
+    else if (strcmp(who, "plain_convert") == 0)
+        numbers[0] = plain_convert(words, answer);
     else
         plain_plan(words, count, answer, numbers);
 }
@@ -88,7 +106,7 @@ int main(int argc, char **argv) {
     uint32_t period = argc == 5 ? (uint32_t)atoi(argv[4]) : 0;
     fclose(file);
 
-    uint64_t best = UINT64_MAX, numbers[4];
+    uint64_t best = UINT64_MAX, numbers[4] = {0};
     for (int i = atoi(argv[3]); i > 0; i--) {
         uint64_t start = now();
         call(argv[1], count, period, numbers);
@@ -96,6 +114,8 @@ int main(int argc, char **argv) {
         best = took < best ? took : best;
     }
     size_t stored = argc == 5 ? numbers[2] + numbers[3] : 2 * (words[0] >> 12 & 0x3ff);
+    if (strstr(argv[1], "convert") != NULL)
+        stored = numbers[0];
     printf("%" PRIu64 "\n", best);
     for (int i = 0; i < 4; i++)
         printf("%" PRIu64 " ", numbers[i]);

@@ -281,6 +281,40 @@ void plain_plan(const uint32_t *words, size_t, uint32_t *answer, uint64_t number
     numbers[3] = common - two;
 }
 
+size_t plain_convert(const uint32_t *words, uint32_t *answer) {
+    size_t m = words[0] & 0xfff, first = words[1] >> 29 == 5 ? 1 + (words[0] >> 12 & 0x3ff) : 1;
+    std::vector<Pair> pairs(m);
+    for (size_t k = 0; k < m; k++) {
+        const uint32_t *w = words + first + 3 * k;
+        pairs[k] = {int(w[0] >> 10 & 0x3ff), int(w[0] & 0x3ff), int(w[1] & 0x1fffffff), int(w[2] & 0x1fffffff)};
+    }
+    std::sort(pairs.begin(), pairs.end(), [](const Pair &p, const Pair &q) {
+        return p.launch != q.launch ? p.launch < q.launch : p.capture < q.capture;
+    });
+    size_t kept = 0;
+    for (const Pair &p : pairs) {
+        if (kept > 0 && pairs[kept - 1].launch == p.launch && pairs[kept - 1].capture == p.capture) {
+            pairs[kept - 1].least = std::min(pairs[kept - 1].least, p.least);
+            pairs[kept - 1].greatest = std::max(pairs[kept - 1].greatest, p.greatest);
+        } else {
+            pairs[kept++] = p;
+        }
+    }
+    std::copy(words, words + first, answer);
+    answer[0] = words[0] - uint32_t(m) + uint32_t(kept);
+    size_t at = first;
+    for (size_t k = 0; k < kept; k++) {
+        answer[at++] = 2u << 29 | uint32_t(pairs[k].launch) << 10 | uint32_t(pairs[k].capture);
+        answer[at++] = 3u << 29 | uint32_t(pairs[k].least);
+        answer[at++] = 4u << 29 | uint32_t(pairs[k].greatest);
+    }
+    uint32_t sum = 0;
+    for (size_t i = 0; i < at; i++)
+        sum += answer[i];
+    answer[at] = 7u << 29 | (sum & 0x1fffffff);
+    return at + 1;
+}
+
 uint32_t plain_common(const uint32_t *words) {
     return uint32_t(common_period(read(words)));
 }

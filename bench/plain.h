@@ -1,4 +1,4 @@
-/* The usual method, for comparison: the same calls as darnerflax_plan and darnerflax_why_not, for lists that are in order, with needs or
+/* The usual method, for comparison: the same calls as darnerflax_plan, darnerflax_why_not and darnerflax_convert, for lists that are in order, with needs or
  * without. */
 #ifndef PLAIN_H
 #define PLAIN_H
@@ -15,6 +15,9 @@ void plain_plan(const uint32_t *words, size_t count, uint32_t *answer, uint64_t 
 
 /* 0, or 1, a register and the lengths of its two chains in `numbers`, and their steps in `answer`. */
 void plain_why_not(const uint32_t *words, uint32_t period, uint32_t *answer, uint64_t numbers[4]);
+
+/* The words of the list with its pairs in order and repeats joined, of which it may be in any order; their count is returned. */
+size_t plain_convert(const uint32_t *words, uint32_t *answer);
 
 uint32_t plain_common(const uint32_t *words);
 

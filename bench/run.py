@@ -10,6 +10,7 @@ import math
 import os
 import pathlib
 import re
+import struct
 import subprocess
 import sys
 
@@ -21,15 +22,9 @@ ROOT = pathlib.Path(__file__).resolve().parent.parent
 WORK = ROOT / 'target' / 'bench'
 
 
-def counts(name):
-    """The instructions of each list, from a file of lines with its name and their count."""
-    return dict(line.split(': ') for line in pathlib.Path(__file__).with_name(name).read_text().splitlines())
-
-
-# of the planner with rounds, and of the one that knew no needs
-BEFORE, BEFORE_NEEDS = counts('before.txt'), counts('before-needs.txt')
-CALL = {'ours': 'darnerflax_plan', 'plain': 'plain_plan', 'sat': 'sat_plan', 'why': 'darnerflax_why_not', 'plain_why': 'plain_why_not'}
-REPEATS = {'ours': 200, 'plain': 5, 'sat': 5, 'why': 200, 'plain_why': 20}
+CALL = {'ours': 'darnerflax_plan', 'plain': 'plain_plan', 'sat': 'sat_plan', 'why': 'darnerflax_why_not', 'plain_why': 'plain_why_not',
+        'read': 'darnerflax_read', 'convert': 'darnerflax_convert', 'plain_convert': 'plain_convert'}
+REPEATS = {'ours': 200, 'plain': 5, 'sat': 5, 'why': 200, 'plain_why': 20, 'read': 200, 'convert': 200, 'plain_convert': 200}
 
 
 def shell(*command):
@@ -81,21 +76,12 @@ class Row:
     def fewer(self):
         return self.plain_count / self.count
 
-    def more(self):
-        """Instructions beside those of the planner before, 0 where these are not known."""
-        return self.count / int(BEFORE[self.name]) if self.name in BEFORE else 0
-
-    def since_needs(self):
-        """Instructions beside those of the planner that knew no needs, 0 where these are not known."""
-        return self.count / int(BEFORE_NEEDS[self.name]) if self.name in BEFORE_NEEDS else 0
-
     def faster(self):
         """Against the faster of the two MILP solvers, finished or cut off."""
         return min(self.cbc.seconds, self.glpk.seconds) / self.seconds
 
     def cells(self):
-        return (self.name, self.n, self.m, self.common, self.free, self.two, million(self.count),
-                million(int(BEFORE[self.name])) if self.name in BEFORE else '', million(self.plain_count))
+        return self.name, self.n, self.m, self.common, self.free, self.two, million(self.count), million(self.plain_count)
 
     def line(self):
         return table_row(*self.cells(), million(self.sat_count), f'{self.fewer():.0f}', micro(self.seconds),
@@ -227,6 +213,32 @@ WHY_HEAD = ('list', 'registers', 'pairs', 'common', 'two', 'below two: ours, mil
             'at common: ours, million instructions', 'plain', 'ours, µs', 'plain')
 
 
+class Stored:
+    """A stored list, converted; beside it plain sorting and joining, and what reading the converted list takes."""
+
+    def __init__(self, name, net):
+        self.name, self.m = name, len(net[1])
+        file, ordered = WORK / 'stored.list', WORK / 'converted.list'
+        file.write_bytes(lists.encode(net))
+        self.seconds, self.count, ours = measured('convert', file)
+        self.plain_seconds, self.plain_count, plain = measured('plain_convert', file)
+        words = list(map(int, ours[4:]))
+        assert words == list(map(int, plain[4:])) and len(words) == int(ours[0]), name
+        ordered.write_bytes(struct.pack(f'<{len(words)}I', *words))
+        self.kept = (len(words) - 2) // 3
+        full = WORK / 'full.list'
+        full.write_bytes(lists.encode(lists.drawn(512, self.m, 0, 100, 1)))
+        self.read_seconds, self.read_count, _ = measured('read', full)
+        print(self.line(), flush=True)
+
+    def line(self):
+        return table_row(self.name, self.m, self.kept, million(self.count), million(self.plain_count), f'{self.count / self.read_count:.1f}',
+                         micro(self.seconds), micro(self.plain_seconds), micro(self.read_seconds))
+
+
+STORED_HEAD = ('list', 'pairs', 'joined', 'ours, million instructions', 'plain', 'ours / reading', 'ours, µs', 'plain', 'reading')
+
+
 def growth(unit, rows):
     head = (unit, 'ours, million instructions', 'plain', 'ours, µs', 'plain')
     return table(head, [table_row(size, million(r.count), million(r.plain_count), micro(r.seconds), micro(r.plain_seconds))
@@ -259,11 +271,7 @@ def main():
                               for unit, nets in zip(('pairs', 'registers'), lists.growth()))
     grown = [row for _, row in by_pairs + by_registers]
     every = circuits + shapes + hard + grown + found
-    more = [row for row in every if row.more() > 1]
-    most_more = max(every, key=Row.more)
     with_needs = [Needy(*three) for three in lists.needy()]
-    since = [row for row in every if row.since_needs() > 1]
-    most_since = max(every, key=Row.since_needs)
     most_needy, most_counted = max(with_needs, key=Needy.more), max(with_needs, key=Needy.more_than_counted_in)
     whys = [Whys(row) for row in every + [needy.row for needy in with_needs]]
     each_why = [why for two in whys for why in two.both()]
@@ -271,11 +279,13 @@ def main():
     large_whys = [why for why in each_why if why.row.n >= 100]
     least_why, top_why = min(large_whys, key=Why.fewer), max(large_whys, key=Why.fewer)
     mean_why = sum(map(Why.fewer, large_whys)) / len(large_whys)
+    stored = [Stored(*two) for two in lists.stored()]
+    most_stored = max(stored, key=lambda row: row.count)
     ones = Row('delays of 0 and 1', lists.ones(512, 2048, 14))
     few_ones = Row('delays of 0 and 1, 100 registers', lists.ones(100, 242, 14))
     faster = min(row.faster() for row in circuits + shapes if row.n >= 100)
     usual, hardest = Summary(circuits + shapes), Summary(hard + found)
-    head = ('list', 'registers', 'pairs', 'common', 'free', 'two', 'ours, million instructions', 'before', 'plain')
+    head = ('list', 'registers', 'pairs', 'common', 'free', 'two', 'ours, million instructions', 'plain')
     long_head = (*head, 'SAT', 'plain / ours', 'ours, µs', 'plain', 'SAT', 'cbc, s', 'glpsol, s', 'MILP / ours')
     summary = table(('lists', 'plain / ours, least', 'mean', 'geometric mean', 'ours / plain, most', 'mean', 'of the totals',
                      'ours, most million instructions'),
@@ -287,8 +297,7 @@ def main():
         'GEOMETRIC': f'{usual.geometric:.0f}', 'FASTER': f'{faster:,.0f}', 'SUMMARY': summary,
         'HARD_MOST': million(hardest.most.count), 'HARD_MOST_LIST': hardest.most.name, 'HARD_MICRO': micro(hardest.most.seconds),
         'HARD_LEAST': f'{hardest.least:.1f}', 'HARD_LEAST_LIST': hardest.worst.name,
-        'MORE': len(more), 'OF': sum(row.more() > 0 for row in every), 'MOST_MORE': f'{most_more.more():.2f}',
-        'MOST_MORE_LIST': most_more.name, 'ONES': million(ones.count), 'ONES_PLAIN': million(ones.plain_count),
+        'ONES': million(ones.count), 'ONES_PLAIN': million(ones.plain_count),
         'FEW_ONES': million(few_ones.count), 'FEW_ONES_PLAIN': million(few_ones.plain_count),
         'CIRCUITS': table(long_head, [row.line() for row in circuits]), 'SHAPES': table(long_head, [row.line() for row in shapes]),
         'HARD': table((*head, 'plain / ours', 'ours, µs', 'plain'), [row.short_line() for row in hard]),
@@ -297,12 +306,12 @@ def main():
         'NEEDY': table(NEEDY_HEAD, [needy.line() for needy in with_needs]),
         'MOST_NEEDY': f'{most_needy.more():.2f}', 'MOST_NEEDY_LIST': most_needy.name,
         'MOST_COUNTED': f'{most_counted.more_than_counted_in():.2f}', 'MOST_COUNTED_LIST': most_counted.name,
-        'SINCE': len(since), 'SINCE_OF': sum(row.since_needs() > 0 for row in every),
-        'MOST_SINCE': f'{most_since.since_needs():.2f}', 'MOST_SINCE_LIST': most_since.name,
         'WHY': table(WHY_HEAD, [two.line() for two in whys if two.row in shapes + hard or two.row in circuits and two.row.n >= 100]),
         'WHY_OF': len(whys), 'WHY_MOST': million(most_why.count), 'WHY_MOST_LIST': most_why.row.name, 'WHY_MICRO': micro(most_why.seconds),
         'WHY_LEAST': f'{least_why.fewer():.2f}', 'WHY_LEAST_LIST': least_why.row.name, 'WHY_MEAN': f'{mean_why:.2f}',
         'WHY_TOP': f'{top_why.fewer():.2f}', 'WHY_TOP_LIST': top_why.row.name,
+        'STORED': table(STORED_HEAD, [row.line() for row in stored]), 'STORED_MOST': million(most_stored.count),
+        'STORED_READ': f'{max(row.count / row.read_count for row in stored):.1f}',
         'STACK': stack(every + [needy.row for needy in with_needs]),
     }.items():
         text = text.replace('{' + key + '}', str(value))

@@ -31,6 +31,10 @@ static uint32_t write_list(void) {
                             written, DARNERFLAX_MAX_WORDS, reply);
 }
 
+static uint32_t convert(void) {
+    return darnerflax_convert(words, count, written, DARNERFLAX_MAX_WORDS, reply);
+}
+
 static uint32_t free_schedule(void) {
     return darnerflax_free(words, count, answer, DARNERFLAX_MAX_REGISTERS, periods);
 }
@@ -74,8 +78,8 @@ static struct job {
     uint32_t (*call)(void);
     size_t most;
 } jobs[] = {
-    {"read", read_list, 0}, {"write", write_list, 0}, {"free", free_schedule, 0}, {"check", check, 0},
-    {"plan", full_plan, 0}, {"split", split, 0},      {"why_not", why_not, 0},    {"report", report, 0},
+    {"read", read_list, 0}, {"write", write_list, 0}, {"convert", convert, 0}, {"free", free_schedule, 0}, {"check", check, 0},
+    {"plan", full_plan, 0}, {"split", split, 0},      {"why_not", why_not, 0}, {"report", report, 0},
 };
 #define JOBS (sizeof jobs / sizeof jobs[0])
 static struct job *job;
