@@ -32,6 +32,7 @@ returns-3 c =
     let ws = a .words .now in
     let f = writtenAt ws in
     let some : 0 < a .k = omega (arith, c .before .before .before .before .before .before .if2 .left) in
+    let asked = not-false (a .asked) (c .before .before .before .before .before .before .before .if1 .left) in
     let last : pairPlace ws (a .k) - 3 ≡ pairPlace ws (a .k - 1) = omega arith in
     c .or .ensures
     ∙ rw (
@@ -40,7 +41,7 @@ returns-3 c =
       c .before .before .before .before .before .pair-place .ensures,
       s .pre .0,
       last,
-    ) (sym (order-later (a .asked) f (a .k) (pairPlace ws (a .k)) (not-false (a .asked) (c .before .before .before .before .before .before .before .if1 .left)) some))
+    ) (sym (order-later (a .asked) f (a .k) (pairPlace ws (a .k)) asked some))
 
 pub order-fault-spec : {M : Type 1} → statement M
 order-fault-spec =

@@ -23,13 +23,14 @@ returns-3 : tie.Need-returns-3
 returns-3 c =
     let a = c .before .before .before .before .before .before .before .before .args in
     let some : 0 < a .k = omega (arith, c .before .before .before .before .before .if2 .left) in
+    let asked = not-false (a .asked) (c .before .before .before .before .before .before .if1 .left) in
     c .or .ensures
     ∙ rw (
       c .before .key2 .ensures,
       c .before .before .key .ensures,
       c .before .before .before .given-pair2 .ensures,
       c .before .before .before .before .given-pair .ensures,
-    ) (sym (order-later (a .asked) (givenPair (a .numbers .now)) (a .k) (a .k) (not-false (a .asked) (c .before .before .before .before .before .before .if1 .left)) some))
+    ) (sym (order-later (a .asked) (givenPair (a .numbers .now)) (a .k) (a .k) asked some))
 
 pub order-fault-spec : {M : Type 1} → statement M
 order-fault-spec =
