@@ -1,8 +1,7 @@
 -- `pairs`: the key and the places of pair k can be worked out, and the loop ends. Invariant: k ≤ m, no more keys to spare than at the
 -- start, and the length kept. What falls: m - k.
-use native.Mathlib.Omega.{arith}
 use Prim.Native.Nat.{_≤_, _-_}
-use mathlib.Core.Path.{_≡_, _∙_}
+use mathlib.Core.Path.{_≡_}
 use lib.ListN.{length}
 use borrow.Author.Needs.{needs}
 use Rattle.test_kit.proofs.random.pairs.Statement.{statement}
