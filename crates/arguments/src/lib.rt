@@ -1,5 +1,7 @@
 // The program's arguments as numbers.
 // The contract cites `specs/Arguments.antt`.
+#![tactic(auto)]
+
 ghost use Rattle.std.specs.Prelude.{◌≡◌};
 ghost use Rattle.arguments.specs.Arguments.{argument_of};
 

@@ -1,5 +1,7 @@
 // Why no split works at a period, whatever its offset: two chains of forced choices at a register.
 // The contracts cite `specs/Blocking.antt`; chains are defined in `chain_laws`.
+#![tactic(auto)]
+
 ghost use Rattle.std.specs.Prelude.{◌≡◌, [], ◌∷◌, ◌++◌, ◌+◌, ◌*◌, ◌/◌, ◌%◌, ◌≤◌, ◌<◌, length, take};
 ghost use Rattle.timing.specs.Limits.{per_pair, max_pairs, max_registers};
 ghost use Rattle.buffers.specs.Over.{over};

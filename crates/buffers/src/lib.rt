@@ -1,5 +1,7 @@
 // Stretches of numbers strung together, and buffers that are filled from the front.
 // The definitions stand in `specs/`, laws in `proofs/`.
+#![tactic(auto)]
+
 ghost use Rattle.std.specs.Prelude.{◌≡◌, ◌≤◌, ◌++◌, length, drop, replicate};
 
 // The first k places are set to v.

@@ -1,5 +1,7 @@
 // Arguments: a period and a file with a timing for each register. Checks them against the delay list in the file that is named last, or
 // on standard input.
+#![tactic(auto)]
+
 fn main() {
     text_programs::check_schedule(libc::STDOUT_FILENO, libc::STDERR_FILENO);
 }

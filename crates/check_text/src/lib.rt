@@ -1,5 +1,7 @@
 // The text for a schedule that is checked against a delay list: the list as bytes, the schedule as text.
 // The contracts cite `specs/CheckText.antt`.
+#![tactic(auto)]
+
 ghost use Rattle.std.specs.Prelude.{◌≡◌, ◌+◌, ◌≤◌, length};
 ghost use Rattle.text_pieces.specs.Pieces.{Put};
 ghost use Rattle.text_pieces.specs.Saying.{SaidAs};

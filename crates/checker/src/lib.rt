@@ -1,5 +1,7 @@
 // Checks a given schedule against a delay list: by how much each pair meets both rules, the smallest margin of all, and whether each pair
 // meets them; if not, which breaks one first. The contracts cite `specs/Check.antt`.
+#![tactic(auto)]
+
 ghost use Rattle.std.specs.Prelude.{◌≡◌, ◌<◌, length};
 ghost use Rattle.timing.specs.Rules.{admissible};
 ghost use Rattle.refusals.specs.Checks.{first_fault};

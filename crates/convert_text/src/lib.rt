@@ -1,5 +1,7 @@
 // Converts the bytes of a stored list, whose pairs come in any order and may repeat, into those of one whose pairs ascend.
 // The contracts cite `specs/ConvertText.antt`; what converting keeps is said in `converter`.
+#![tactic(auto)]
+
 ghost use Rattle.std.specs.Prelude.{◌*◌, ◌≤◌, length};
 ghost use Rattle.words.specs.Bytes.{to_bytes};
 ghost use Rattle.text_pieces.specs.Pieces.{Put};

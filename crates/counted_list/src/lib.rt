@@ -1,6 +1,8 @@
 // The words of a list with the needs of its registers counted into the delays of its pairs. A pair is taken from them with no look
 // at needs, and is the same pair.
 // The contracts cite `specs/Counted.antt`; `proofs/CountedLaws.antt` has what the words are good for.
+#![tactic(auto)]
+
 ghost use Rattle.std.specs.Prelude.{◌≡◌, ◌++◌, take};
 ghost use Rattle.buffers.specs.Run.{run};
 ghost use Rattle.buffers.specs.Over.{over};

@@ -1,5 +1,7 @@
 // Whether a run of words is a delay list, the pairs of an accepted one, and the reader that walks them.
 // The contracts cite `list_format`: where a pair stands, what it is, and every check in its order.
+#![tactic(auto)]
+
 ghost use Rattle.std.specs.Prelude.{◌≡◌, ◌+◌, ◌-◌, ◌*◌, ◌^◌, ◌<◌, ◌≤◌, true, false, ◌&&◌, [], ◌∷◌, length, nat_lt};
 ghost use Rattle.words.specs.Word.{count_bits, register_bits, launch_of, capture_of, hold_of, setup_of};
 ghost use Rattle.timing.specs.Limits.{max_registers, max_period};

@@ -1,6 +1,8 @@
 // The registers that are late in every split that works: which they are, and the steps that force them.
 // A pair with a greatest delay above the period forces its capture late, a root. From a late register the broken choices of a pair lead
 // on to the register across. The contracts cite `specs/Forest.antt`.
+#![tactic(auto)]
+
 ghost use Rattle.std.specs.Prelude.{◌≡◌, ◌||◌, ◌+◌, ◌*◌, ◌≤◌, ◌<◌, length};
 ghost use Rattle.timing.specs.Limits.{per_pair};
 ghost use Rattle.list_format.specs.Lists.{pair_at};

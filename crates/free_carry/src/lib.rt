@@ -1,5 +1,7 @@
 // Raises along parents: each register as the rule that raised it last asks, the register that the rule starts from before it.
 // The parents are a hint, kept from period to period: each rule is looked up in the list before it raises anything.
+#![tactic(auto)]
+
 ghost use Rattle.std.specs.Prelude.{◌≡◌};
 ghost use Rattle.timing.specs.Limits.{max_timing};
 ghost use Rattle.list_format.specs.Lists.{pair_count, pairs, IsUsable, UsableList};

@@ -1,6 +1,8 @@
 // The common period, the free period and the free schedule of a usable list; the free period by trials of longer and
 // longer periods, and from the common period down where they do not come to an end soon.
 // The contracts cite `specs/Climbed.antt` and the laws of `free_laws`.
+#![tactic(auto)]
+
 ghost use Rattle.std.specs.Prelude.{◌≡◌, ◌-◌, ◌≤◌, ◌<◌, length};
 ghost use Rattle.list_format.specs.Lists.{pair_count, pairs, IsUsable, UsableList};
 ghost use Rattle.free_laws.specs.Free.{common as common_of};

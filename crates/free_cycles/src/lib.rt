@@ -1,5 +1,7 @@
 // A cycle of rules of a delay list bounds the period: what its rules ask for in all must fit into what they leave.
 // The contracts cite `specs/Tracing.antt` and the laws of `free_laws`.
+#![tactic(auto)]
+
 ghost use Rattle.std.specs.Prelude.{◌≡◌, ℕ, ◌+◌, ◌*◌, ◌≤◌, ◌<◌};
 ghost use Rattle.timing.specs.Limits.{max_period};
 ghost use Rattle.list_format.specs.Lists.{registers, pairs, UsableList};

@@ -2,6 +2,8 @@
 // the register that it ends at is hung below the one that it starts from, with all that hangs below it. So the times are those of
 // a forest of rules, the parents, until a rule would close a cycle: that cycle bounds the period (Young, Tarjan and Orlin 1991).
 // All of this is a hint but the cycle, which is checked against the list.
+#![tactic(auto)]
+
 ghost use Rattle.std.specs.Prelude.{◌≡◌, ◌≤◌, ◌<◌, length};
 ghost use Rattle.list_format.specs.Lists.{pair_count, pairs, IsUsable, UsableList};
 ghost use Rattle.free_laws.specs.Constraint.{Bound};

@@ -1,6 +1,8 @@
 // The forest of a descent: a register may hang below another, by the rule that raised it last, its parent. The registers stand in
 // an order in which each is followed by all that hangs below it, its branch; so a branch is moved stretch by stretch.
 // All of it is a hint: it is safe for arrays of any contents, and nothing is promised of it.
+#![tactic(auto)]
+
 ghost use Rattle.std.specs.Prelude.{◌≡◌, ◌<◌, length};
 ghost use Rattle.list_format.specs.Lists.{pair_count, IsUsable, UsableList};
 

@@ -1,5 +1,7 @@
 // Raises from register to register: a register that rose stands in line, and when its turn comes the rules that start from it are
 // applied. Which register comes when is a hint only; the rules are looked up in the list.
+#![tactic(auto)]
+
 ghost use Rattle.timing.specs.Limits.{max_timing};
 ghost use Rattle.list_format.specs.Lists.{pairs};
 ghost use Rattle.free_laws.specs.Constraint.{constraints, Bound};

@@ -1,5 +1,7 @@
 // Raises a schedule as far as the rules of a delay list ask, one round over the pairs at a time, in place.
 // The contracts cite `specs/Raise.antt` and the laws of `free_laws`.
+#![tactic(auto)]
+
 ghost use Rattle.std.specs.Prelude.{◌≡◌, ◌-◌, ◌<◌, ◌≤◌, length};
 ghost use Rattle.timing.specs.Limits.{max_period, max_timing};
 ghost use Rattle.list_format.specs.Lists.{pairs};

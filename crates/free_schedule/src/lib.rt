@@ -1,5 +1,7 @@
 // The common period, the free period and the free schedule of a delay list.
 // The contracts cite `specs/FreeCall.antt`, and the definitions of `free_laws`.
+#![tactic(auto)]
+
 ghost use Rattle.list_format.specs.Lists.{IsAccepted, AcceptedList};
 ghost use Rattle.free_schedule.specs.FreeCall.{FreeAs, Roomy, FreeIn};
 

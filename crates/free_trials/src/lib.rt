@@ -1,5 +1,7 @@
 // A trial of a period: the least schedule at it, or a longer period, below which there is none.
 // The contracts cite `specs/Trial.antt` and the laws of `free_laws`.
+#![tactic(auto)]
+
 ghost use Rattle.std.specs.Prelude.{◌≡◌, ◌≤◌, length};
 ghost use Rattle.timing.specs.Limits.{max_period, max_timing};
 ghost use Rattle.buffers.specs.Over.{zeros};

@@ -1,5 +1,7 @@
 // The words of a delay list that came as bytes, four to a word.
 // The contract cites `specs/ListBytes.antt`.
+#![tactic(auto)]
+
 ghost use Rattle.std.specs.Prelude.{◌≡◌, get_or};
 ghost use Rattle.list_bytes.specs.ListBytes.{LoadedAs, blank_byte, text_byte, looks_like_text};
 

@@ -1,5 +1,7 @@
 // The delay list: what a run of words says, and what reading and writing one come to.
 // Definitions stand in `specs/`, laws in `proofs/`; here are only the answers' types.
+#![tactic(auto)]
+
 use timing::Pair;
 
 // What is said of a run of words: the counts of registers and pairs, or the first refusal with its place.

@@ -1,5 +1,7 @@
 // A delay list as plain text, and back. What `show` writes, `make` reads back to the same bytes: `proofs/RoundTrip.antt`.
 // The contracts cite `specs/ListText.antt`.
+#![tactic(auto)]
+
 ghost use Rattle.std.specs.Prelude.{◌+◌, ◌*◌, ◌≤◌, ◌<◌, length, get_or, take, drop, ◌≡◌};
 ghost use Rattle.text_pieces.specs.Pieces.{Put};
 ghost use Rattle.refusals.specs.Reply.{told};

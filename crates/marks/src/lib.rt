@@ -1,5 +1,7 @@
 // The marks of the registers, and what the broken choices of one pair force on them.
 // The contracts cite `specs/Choices.antt` and `specs/Marks.antt` of the crate `split_laws`.
+#![tactic(auto)]
+
 ghost use Rattle.std.specs.Prelude.{◌≡◌, ◌≤◌, ◌<◌, length};
 ghost use Rattle.timing.specs.Rules.{pair_met, InRange};
 ghost use Rattle.split_laws.specs.Split.{time_of};

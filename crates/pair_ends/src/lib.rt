@@ -1,5 +1,7 @@
 // The ends of the pairs at each register, for walks from a register along its pairs.
 // They are a hint only, and nothing is promised of them.
+#![tactic(auto)]
+
 ghost use Rattle.std.specs.Prelude.{◌≡◌, ◌^◌, ◌<◌};
 ghost use Rattle.list_format.specs.Lists.{pair_count, IsUsable};
 

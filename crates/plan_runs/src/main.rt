@@ -2,6 +2,8 @@
 // pair twice, a text in place of a list, a list of 32 pairs, which begins with a space and names register 7 of 7, a list of the largest
 // size with four bytes more, a directory, input that is not open, output that cannot be written.
 // Then a list of the largest size, with needs, and what the plain planner of the benchmark prints for it.
+#![tactic(auto)]
+
 use libc::STDOUT_FILENO;
 use print_plan::print_plan;
 

@@ -1,5 +1,7 @@
 // The full plan of a delay list: the common, the free and the two-timing period, the offset, the free timings and the split.
 // The contracts cite `specs/PlanCall.antt`, and the definitions of `free_laws`, `split_laws` and `plan_laws`.
+#![tactic(auto)]
+
 ghost use Rattle.std.specs.Prelude.{◌≡◌, length, drop};
 ghost use Rattle.refusals.specs.Checks.{first_fault};
 ghost use Rattle.planner.specs.PlanCall.{plan_call_checks, PlanAllowed, PlanRoom, PlanIn, TwoIn, PlanAs};

@@ -1,6 +1,8 @@
 // The six jobs and the converter for C and Rust: plain numbers, slices as pointer and length, and a reply of nine places.
 // Each contract is the job's own record, of the answer that status and reply tell (`specs/Coded.antt`).
 // `proofs/Apart.antt` proves that no two answers of a job are told alike, so that the record holds of what the caller reads.
+#![tactic(auto)]
+
 ghost use Rattle.std.specs.Prelude.{◌≡◌, [], ◌∷◌};
 ghost use Rattle.list_format.specs.Read.{read_reply};
 ghost use Rattle.list_format.specs.Write.{write_reply};

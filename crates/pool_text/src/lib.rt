@@ -1,5 +1,7 @@
 // Pools the bytes of two lists of one chip into those of one list.
 // The contracts cite `specs/PoolText.antt`; what the pooled list stands for is said in `pooling`.
+#![tactic(auto)]
+
 ghost use Rattle.std.specs.Prelude.{◌≤◌, length};
 ghost use Rattle.list_bytes.specs.ListBytes.{max_bytes, list_of};
 ghost use Rattle.convert_text.specs.ConvertText.{MadeAs};

@@ -1,5 +1,7 @@
 // Pools two lists of one chip, as cold and hot: a list that asks for what each of the two asks for.
 // The contract cites `specs/Pool.antt`; how both lists are walked together is said in `merging`.
+#![tactic(auto)]
+
 ghost use Rattle.std.specs.Prelude.{◌≡◌, ◌&&◌, ◌++◌, ◌+◌, ◌^◌, ◌<◌, ◌≤◌, eqb, length, take};
 ghost use Rattle.buffers.specs.Over.{over};
 ghost use Rattle.words.specs.Word.{count_bits};

@@ -1,4 +1,6 @@
 // The program `plan`: the plan of a delay list as text.
+#![tactic(auto)]
+
 use libc::PATH_MAX;
 use list_bytes::MAX_BYTES;
 use report::TEXT_PLACES;

@@ -1,5 +1,7 @@
 // Whether some split works at a period and an offset, for a usable list; if so, the marks are those of the first.
 // The contracts cite `specs/Store.antt` (what the scratch holds) and `specs/Passes.antt` (what a pass promises).
+#![tactic(auto)]
+
 ghost use Rattle.std.specs.Prelude.{◌≡◌, ◌+◌, ◌*◌, ◌≤◌, ◌<◌, length, take, drop, ◌++◌};
 ghost use Rattle.buffers.specs.Over.{over};
 ghost use Rattle.timing.specs.Limits.{per_pair};

@@ -1,6 +1,8 @@
 // Up to which period each register of a usable list is forced late, and with it the two-timing period and its split.
 // No period is tried: the reaches are raised pair by pair until none rises any more.
 // The contracts cite `specs/Settling.antt`, and the definitions of `plan_laws` (reaches and the plan).
+#![tactic(auto)]
+
 ghost use Rattle.std.specs.Prelude.{◌≡◌, ◌||◌, ◌+◌, ◌<◌, max, min, ltb, length};
 ghost use Rattle.list_format.specs.Lists.{pairs, UsableList};
 ghost use Rattle.free_laws.specs.Free.{common};

@@ -1,5 +1,7 @@
 // Job 1, reading: a delay list into plain numbers, four for each pair and then two for each register.
 // The contract cites `list_format`: `specs/Read.antt` for the outcome, `specs/RoundTrip.antt` for the whole promise.
+#![tactic(auto)]
+
 ghost use Rattle.std.specs.Prelude.{◌≡◌, true, [], ◌∷◌, ◌++◌, ◌+◌, ◌*◌, ◌<◌, ◌≤◌, length, take, drop};
 ghost use Rattle.buffers.specs.Over.{over};
 ghost use Rattle.list_format.specs.Lists.{registers, pair_count, need_words, needs_of, IsAccepted};

@@ -1,5 +1,7 @@
 // One line for a refusal, or for a text that cannot be read: what is wrong, in plain words.
 // The contracts cite `specs/RefusalText.antt`.
+#![tactic(auto)]
+
 ghost use Rattle.std.specs.Prelude.{◌+◌, ◌≤◌, length};
 ghost use Rattle.text_pieces.specs.Pieces.{Put};
 ghost use Rattle.refusal_text.specs.RefusalText.{byte_width, place_width, words_width, line_width};

@@ -1,5 +1,7 @@
 // A run of checks, of which the first that fails decides.
 // The contracts cite `specs/Checks.antt`; `specs/Reply.antt` says what a call comes to.
+#![tactic(auto)]
+
 ghost use Rattle.std.specs.Prelude.{◌≡◌};
 ghost use Rattle.refusals.specs.Checks.{or_check, then_fault};
 

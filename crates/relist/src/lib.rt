@@ -1,5 +1,7 @@
 // A list anew: the registers and the needs of a list, with other pairs.
 // The contracts cite `specs/Relist.antt`.
+#![tactic(auto)]
+
 ghost use Rattle.std.specs.Prelude.{◌≡◌, ◌∷◌, ◌++◌, ◌+◌, ◌^◌, ◌<◌, ◌≤◌, length, take};
 ghost use Rattle.buffers.specs.Over.{over};
 ghost use Rattle.ordering.specs.Order.{joined};

@@ -1,5 +1,7 @@
 // From the bytes of a delay list to the text of its plan.
 // The contracts cite `specs/Report.antt`.
+#![tactic(auto)]
+
 ghost use Rattle.std.specs.Prelude.{[], ◌∷◌, ◌+◌, ◌*◌, ◌≤◌, length};
 ghost use Rattle.text_pieces.specs.Pieces.{Put};
 ghost use Rattle.report.specs.Report.{periods_width, register_width, text_places, periods_line, register_line, register_lines, plan_lines};

@@ -1,5 +1,7 @@
 // Decimal numbers in a text, read byte by byte: with blanks, newlines and comments between them, or in the lines of a delay list.
 // The contracts cite `specs/Scan.antt`.
+#![tactic(auto)]
+
 ghost use Rattle.std.specs.Prelude.{◌≡◌, ◌+◌, ◌≤◌, ◌<◌, length, get_or};
 ghost use Rattle.scan.specs.Scan.{text_bytes, max_numbers, is_blank, start, failed, with_digit, is_second, number_ended};
 ghost use Rattle.scan.specs.Scan.{need_line, needs_then, line_fault, line_ended};

@@ -1,5 +1,7 @@
 // The text of a free schedule, and of a split at a period and an offset, for the bytes of a delay list.
 // The contracts cite `specs/ScheduleText.antt`.
+#![tactic(auto)]
+
 ghost use Rattle.std.specs.Prelude.{◌+◌, ◌*◌, ◌≤◌, length, ◌++◌, ◌≡◌};
 ghost use Rattle.timing.specs.Limits.{max_registers, max_scratch};
 ghost use Rattle.text_pieces.specs.Pieces.{Put, letters, number, space, newline};

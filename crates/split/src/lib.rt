@@ -1,5 +1,7 @@
 // Whether some split works at a period and an offset, and the first one.
 // The contracts cite `specs/Splitting.antt`; what a split is stands in `split_laws`.
+#![tactic(auto)]
+
 ghost use Rattle.std.specs.Prelude.{◌≡◌};
 ghost use Rattle.refusals.specs.Checks.{first_fault};
 ghost use Rattle.split.specs.Splitting.{split_call_checks, SplitAs, SplitAllowed};

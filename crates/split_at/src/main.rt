@@ -1,5 +1,7 @@
 // Arguments: a period and an offset. Prints the first split at them of the delay list in the file that is named last, or on standard
 // input; or that there is none.
+#![tactic(auto)]
+
 fn main() {
     text_programs::split_at(libc::STDOUT_FILENO, libc::STDERR_FILENO);
 }

@@ -1,5 +1,6 @@
 // Splits of the registers into early and late, and the marks by which the first that works is found.
 // Definitions stand in `specs/`, laws in `proofs/`; here are only the types that the code shares.
+#![tactic(auto)]
 
 // What a step did to the marks: nothing was left to do, a mark was set, or a register was forced both ways.
 #[derive(Drop)]

@@ -1,6 +1,8 @@
 // The programs' input and output: every fault of reading and writing is told on the descriptor `errors`.
 // The contracts say that what was received is handed on whole: the buffers are a byte longer than the longest list and the longest text,
 // so that one that is too long is known by its length.
+#![tactic(auto)]
+
 ghost use Rattle.std.specs.Prelude.{◌≡◌, ◌≤◌, ◌<◌, length, take};
 ghost use Rattle.list_bytes.specs.ListBytes.{max_bytes};
 ghost use Rattle.scan.specs.Scan.{text_bytes};

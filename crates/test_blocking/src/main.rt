@@ -1,6 +1,8 @@
 // Runs the reason for a period that can't be had: on worked examples, on every small list and on random ones against a plain search
 // over all splits and offsets, and on lists of the largest size. Each chain is followed step by step by code that stands here.
 // What it prints is held to the file `stdout`.
+#![tactic(auto)]
+
 mod chains;
 mod examples;
 mod large;

@@ -1,4 +1,6 @@
 // What the test programs share: sizes, numbers that look random, lists, buffers, lines of text, and a tally.
+#![tactic(auto)]
+
 pub mod largest;
 pub mod lists;
 pub mod places;

@@ -1,4 +1,6 @@
 // Runs reading and writing on worked examples and on random lists. What it prints is held to the file `stdout`.
+#![tactic(auto)]
+
 mod examples;
 mod show;
 mod trips;

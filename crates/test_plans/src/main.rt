@@ -1,5 +1,7 @@
 // Runs the full plan on random small lists against a plain search over all splits and the offsets up to fifteen, in halves, and
 // on lists of the largest size. What it prints is held to the file `stdout`.
+#![tactic(auto)]
+
 mod large;
 mod search;
 

@@ -1,6 +1,8 @@
 // Runs the pooling of two lists on worked examples, on random lists against a plain merge, with schedules that are checked on the pooled
 // list and on both, and with plans that are searched for over the pairs of both, and on lists of the largest size. What it prints is
 // held to the file `stdout`.
+#![tactic(auto)]
+
 mod calls;
 mod drawn;
 mod examples;

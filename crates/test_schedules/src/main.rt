@@ -1,5 +1,7 @@
 // Runs the check of a schedule and the free schedule on worked examples, on random small lists against a plain search,
 // and on chains and rings of 512 registers. What it prints is held to the file `stdout`.
+#![tactic(auto)]
+
 mod examples;
 mod large;
 mod plain;

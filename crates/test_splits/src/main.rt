@@ -1,5 +1,7 @@
 // Runs the split at a period and an offset on worked examples, on random small lists against a plain search over all
 // splits, and on chains of 512 registers. What it prints is held to the file `stdout`.
+#![tactic(auto)]
+
 mod examples;
 mod large;
 mod search;

@@ -1,6 +1,8 @@
 // Pieces of text stored in a buffer one after the other: bytes, decimal numbers, names with their numbers.
 // Each function stores a piece from `at` on, keeps all other places, and returns the place after the piece.
 // The contracts cite `specs/Pieces.antt`.
+#![tactic(auto)]
+
 ghost use Rattle.std.specs.Prelude.{[], ◌∷◌, ◌+◌, ◌≤◌, ◌<◌, length};
 ghost use Rattle.text_pieces.specs.Pieces.{digit, decimal, number, signed, named, refused_at};
 ghost use Rattle.text_pieces.specs.Pieces.{max_digits, number_width, signed_width, refused_width, Put};

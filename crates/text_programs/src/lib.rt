@@ -1,5 +1,7 @@
 // The programs between delay lists and texts. Each reads from the file that its last argument names, or from standard input, writes what
 // it makes to `output`, and what is wrong to `errors`.
+#![tactic(auto)]
+
 use arguments::Argument;
 use convert_text::Made;
 use libc::PATH_MAX;

@@ -5,6 +5,8 @@
 // one that is blocked by a hold rule too; a text that is too long, a directory, output that cannot be written, and no arguments. Then
 // texts without needs, with needs in the last line, and with pairs in another order, one of them twice; such a list, and one in order,
 // converted; and a text of the largest size, with commas.
+#![tactic(auto)]
+
 use libc::STDOUT_FILENO;
 use text_programs::{check_from, make_from, split_from};
 

@@ -20,6 +20,7 @@ module _ {A : Type 0} where
   -- what holds of each, and of some, holds of one
   pub pick_some : {P Q R : A → Type 0} {C : Type 0} → ((x : A) → P x → Q x → R x → C) → (xs : List A) → Each P xs
       → Each Q xs → Some R xs → C
+  pick_some f [] h k s = elim s [ ]
   pick_some f (x ∷ xs) h k (inl r) = f x h.0 k.0 r
   pick_some f (x ∷ xs) h k (inr m) = pick_some f xs h.1 k.1 m
 

@@ -1,5 +1,7 @@
 // A pair of registers with the delays of the logic between them, and the margins of its two timing rules.
 // The contracts cite `specs/Rules.antt`; the limits stand again, one by one, in `specs/Limits.antt`.
+#![tactic(auto)]
+
 ghost use Rattle.std.specs.Prelude.{◌≡◌, ◌-◌, ◌^◌, ◌<◌, max, min};
 ghost use Rattle.std.proofs.Math.IntN.{sub_ℕ};
 ghost use Rattle.timing.specs.Limits.{scratch_places};

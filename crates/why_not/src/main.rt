@@ -1,5 +1,7 @@
 // Argument: a period. Prints whether some split works at it with any offset, or what blocks it, for the delay list in the file that is named
 // last, or on standard input.
+#![tactic(auto)]
+
 fn main() {
     text_programs::why_not(libc::STDOUT_FILENO, libc::STDERR_FILENO);
 }

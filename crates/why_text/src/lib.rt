@@ -1,5 +1,7 @@
 // The text of what blocks a period, for the bytes of a delay list.
 // The contracts cite `specs/WhyText.antt`.
+#![tactic(auto)]
+
 ghost use Rattle.std.specs.Prelude.{◌+◌, ◌-◌, ◌*◌, ◌^◌, ◌≤◌, ◌<◌, ◌≡◌, length};
 ghost use Rattle.timing.specs.Limits.{max_registers};
 ghost use Rattle.timing.specs.Rules.{setup_met};

@@ -1,5 +1,7 @@
 // The 32-bit words of a delay list: their fields, how they are made, their sum, and their bytes in a file.
 // And a number with sign as a word of 64 bits. The contracts cite `specs/Word.antt`, `specs/Bytes.antt` and `specs/Signed.antt`.
+#![tactic(auto)]
+
 mod bytes;
 mod signed;
 

@@ -1,5 +1,7 @@
 // Job 1, writing: a delay list from plain numbers, four for each pair and two for each register.
 // The contract cites `list_format`: `specs/Write.antt` for the outcome, `specs/RoundTrip.antt` for the whole promise.
+#![tactic(auto)]
+
 ghost use Rattle.std.specs.Prelude.{◌≡◌, false, [], ◌∷◌, ◌++◌, ◌+◌, ◌*◌, ◌^◌, ◌<◌, ◌≤◌, length, take, drop, set};
 ghost use Rattle.buffers.specs.Run.{run};
 ghost use Rattle.buffers.specs.Over.{over};
