@@ -9,7 +9,7 @@ use scan::{MAX_NUMBERS, Scanned};
 use std::rt::Env;
 
 // One number in decimal, or not.
-#[derive(Drop)]
+#[derive(Clone, Copy)]
 pub enum Argument {
     Number(u32),
     Wrong,

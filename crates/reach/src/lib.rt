@@ -131,7 +131,7 @@ fn lift(words: &[u32], count: usize, top: u32, v: u32, reach: &mut [u32])
 // to raise; each stays a reach.
 
 // What came of a raise along a pair: the register, whether it was raised, and the period that the pair asks for.
-#[derive(Drop)]
+#[derive(Clone, Copy)]
 pub struct Along {
     pub register: usize,
     pub raised: bool,
@@ -139,7 +139,7 @@ pub struct Along {
 }
 
 // The longest period that a pair was seen to ask for, and how many registers are in the heap.
-#[derive(Drop)]
+#[derive(Clone, Copy)]
 pub struct Waiting {
     pub most: u32,
     pub size: usize,

@@ -20,7 +20,7 @@ const MAX_VALUE: u64 = 4_294_967_295;
 pub const TEXT_BYTES: usize = 131_072;
 
 // How far the reading of a text has come.
-#[derive(Drop)]
+#[derive(Clone, Copy)]
 pub struct State {
     // whether the lines are those of a delay list
     pub lined: bool,
@@ -42,7 +42,7 @@ pub struct State {
 }
 
 // Where a byte stands in a text, line and column counted from 1.
-#[derive(Drop)]
+#[derive(Clone, Copy)]
 pub struct Place {
     pub line: usize,
     pub column: usize,
@@ -53,7 +53,7 @@ pub const END: u32 = 256;
 
 // What reading a text comes to: the count of its numbers and how many of them are needs, which stand right after the first number; or what
 // is wrong, the line, the column and the byte there.
-#[derive(Drop)]
+#[derive(Clone, Copy)]
 pub enum Scanned {
     Numbers(usize, usize),
     Faulty(u32, usize, usize, u32),
