@@ -18,7 +18,7 @@ use refusals::Fault;
 use timing::PER_PAIR;
 
 // Some split works; or none does, with the register and the lengths of the two chains at it; or a refusal with its place.
-#[derive(Drop)]
+#[derive(Clone, Copy)]
 pub enum Reason {
     Workable,
     Blocked(u32, u32, u32),
