@@ -12,14 +12,14 @@ ghost use Rattle.checker.specs.Check.{some_above, timing_checks, CheckedAs};
 use list_format::Verdict;
 use refusals::Fault;
 
-#[derive(Drop)]
+#[derive(Clone, Copy)]
 pub enum Rule {
     Setup,
     Hold,
 }
 
 // A margin, with the pair and the rule that have it.
-#[derive(Drop)]
+#[derive(Clone, Copy)]
 pub struct Smallest {
     pub margin: i64,
     pub pair: usize,
@@ -37,7 +37,7 @@ pub enum Checking {
 }
 
 // What a walk has come to: the smallest margin, and where that is negative the first pair that breaks a rule.
-#[derive(Drop)]
+#[derive(Clone, Copy)]
 struct Walk {
     smallest: Smallest,
     broken: usize,
