@@ -439,7 +439,7 @@ fn place_after(words: &[u32], k: usize) -> usize
 }
 
 // The reader: the caller's words and the pair that it has come to.
-#[derive(Drop)]
+#[derive(Clone, Copy)]
 pub struct Reader<'a> {
     pub words: &'a [u32],
     pub at: usize,
