@@ -38,7 +38,7 @@ pub fn above(words: &[u32], count: usize, parents: &[u16; PARENTS], r: usize) ->
 }
 
 // A way up along parents: how many registers it has met first, the last of them, and the register that came after it.
-#[derive(Drop)]
+#[derive(Clone, Copy)]
 pub struct Way {
     pub height: usize,
     pub last: usize,
