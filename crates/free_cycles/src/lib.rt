@@ -12,7 +12,7 @@ use free_rounds::PARENTS;
 
 // A trail back along rules, from the register `start` to the register `at`: what the rules ask for, what they leave,
 // and how many of them are setup.
-#[derive(Drop)]
+#[derive(Clone, Copy)]
 pub struct Trail {
     pub start: u32,
     pub at: u32,
