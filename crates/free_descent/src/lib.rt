@@ -151,7 +151,7 @@ fn rule_into(end: usize) -> usize {
 }
 
 // A register with its time and the count of setup rules above it.
-#[derive(Drop)]
+#[derive(Clone, Copy)]
 pub struct Here {
     pub register: usize,
     pub time: u32,
@@ -328,7 +328,7 @@ fn take_back(parents: &mut [u16; REGISTERS], notes: &[u16; NOTES], moves: usize)
 // How far the descent has come: times are told at the period `low`, and `level` is the one it has come down to, with so many moves;
 // `height` is the count of registers put off until the one at hand, `at`, has been moved by `rule`. Once it is over the rule closes
 // a cycle there, if one was met.
-#[derive(Drop)]
+#[derive(Clone, Copy)]
 pub struct Descent {
     pub low: u32,
     pub level: u32,
