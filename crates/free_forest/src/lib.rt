@@ -102,7 +102,7 @@ pub fn set_apart(x: &mut [u32], parents: &mut [u16; REGISTERS], forest: &mut [u1
 // ---- rules
 
 // A rule between two registers: what it asks of the time of the one that it ends at, what it has there, and 1 for setup.
-#[derive(Drop)]
+#[derive(Clone, Copy)]
 pub struct Link {
     pub from: usize,
     pub to: usize,
@@ -149,7 +149,7 @@ pub fn link_of(words: &[u32], count: usize, x: &[u32], rule: usize, low: u32) ->
 }
 
 // What an end of a pair has across: the register there with its time, the delays between, and whether this end is the launch.
-#[derive(Drop)]
+#[derive(Clone, Copy)]
 pub struct Across {
     pub register: usize,
     pub time: u32,
@@ -238,7 +238,7 @@ pub fn time_of(x: &[u32], r: usize) -> u32 {
 }
 
 // The periods of a descent: it has come down to `level`, and times are told at `low`.
-#[derive(Drop)]
+#[derive(Clone, Copy)]
 pub struct Span {
     pub low: u32,
     pub level: u32,
@@ -277,7 +277,7 @@ pub fn broken_until(l: Link, source: u32, own: u32, s: Span) -> u32 {
 // ---- a branch moves
 
 // By how much the registers of a branch move: their times, and the counts of setup rules above them.
-#[derive(Drop)]
+#[derive(Clone, Copy)]
 pub struct Distance {
     pub time: u32,
     pub setups: u32,
