@@ -12,7 +12,7 @@ use pair_ends::{ENDS, REGISTERS, wide};
 use timing::MAX_PAIRS;
 
 // How many registers stand in line, where the line begins, and how many ends may still be looked at.
-#[derive(Drop)]
+#[derive(Clone, Copy)]
 pub struct Line {
     pub waiting: usize,
     pub first: usize,
