@@ -139,7 +139,7 @@ pub struct Along {
 }
 
 // The longest period that a pair was seen to ask for, and how many registers are in the heap.
-#[derive(Drop)]
+#[derive(Clone, Copy)]
 pub struct Waiting {
     pub most: u32,
     pub size: usize,
