@@ -20,7 +20,7 @@ const MAX_VALUE: u64 = 4_294_967_295;
 pub const TEXT_BYTES: usize = 131_072;
 
 // How far the reading of a text has come.
-#[derive(Drop)]
+#[derive(Clone, Copy)]
 pub struct State {
     // whether the lines are those of a delay list
     pub lined: bool,
