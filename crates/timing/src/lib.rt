@@ -34,7 +34,7 @@ pub const PER_PAIR: usize = 4;
 pub const MAX_SCRATCH: usize = PER_REGISTER * MAX_REGISTERS as usize + PER_PAIR * MAX_PAIRS;
 
 // The launch and the capture register, and the least and the greatest delay between them.
-#[derive(Drop)]
+#[derive(Clone, Copy)]
 pub struct Pair {
     pub launch: u32,
     pub capture: u32,
