@@ -8,7 +8,7 @@ ghost use Rattle.arguments.specs.Arguments.{argument_of};
 use scan::{MAX_NUMBERS, Scanned};
 
 // One number in decimal, or not.
-#[derive(Drop)]
+#[derive(Clone, Copy)]
 pub enum Argument {
     Number(u32),
     Wrong,

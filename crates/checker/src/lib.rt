@@ -28,7 +28,7 @@ pub struct Smallest {
 
 // What checking comes to: a list without pairs, which every schedule meets; each pair meets both rules; the first pair that does not and the
 // rule that it breaks, setup named before hold; or a refusal with its place. Pairs come with the smallest margin of all.
-#[derive(Drop)]
+#[derive(Clone, Copy)]
 pub enum Checking {
     NoPairs,
     Admissible(Smallest),

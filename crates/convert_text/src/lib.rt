@@ -12,7 +12,7 @@ use converter::Converting;
 use list_bytes::{MAX_BYTES, MAX_WORDS};
 
 // What is made, with the count of bytes stored: the bytes of a list, or a line that says what is wrong.
-#[derive(Drop)]
+#[derive(Clone, Copy)]
 pub enum Made {
     Bytes(usize),
     Fault(usize),

@@ -23,7 +23,7 @@ pub const LATE_EARLY: usize = 2;
 pub const LATE_LATE: usize = 3;
 
 // What came of a step along a pair: the register across, and whether it was marked.
-#[derive(Drop)]
+#[derive(Clone, Copy)]
 pub struct Across {
     pub register: usize,
     pub marked: bool,

@@ -62,7 +62,7 @@ pub fn common(words: &[u32], count: usize) -> u32
 
 // What trials come to: the free period, with the free schedule, or a longer period than the last that they tried, or one that they
 // leave undecided.
-#[derive(Drop)]
+#[derive(Clone, Copy)]
 pub enum Ascent {
     Done(u32),
     Onward(u32),
@@ -71,7 +71,7 @@ pub enum Ascent {
 
 // How trials are made: by so many plain rounds, or by all means if that is 0; how many at most; and whether the first starts from
 // parents that are kept from another period.
-#[derive(Drop)]
+#[derive(Clone, Copy)]
 pub struct Manner {
     pub rounds: usize,
     pub trials: usize,

@@ -9,7 +9,7 @@ use list_format::Verdict;
 use pair_ends::{ENDS, FEW_ENDS, FEW_PAIRS, NONE, REGISTERS};
 
 // The common and the free period, or a refusal with its place.
-#[derive(Drop)]
+#[derive(Clone, Copy)]
 pub enum FreeAnswer {
     Periods(u32, u32),
     Refused(u32, usize),

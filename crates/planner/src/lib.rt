@@ -14,7 +14,7 @@ use pair_ends::{ENDS, FEW_ENDS, FEW_PAIRS, NONE, REGISTERS};
 use refusals::Fault;
 
 // The common, the free and the two-timing period and the offset, or a refusal with its place.
-#[derive(Drop)]
+#[derive(Clone, Copy)]
 pub enum Planning {
     Planned(u32, u32, u32, u32),
     Refused(u32, usize),

@@ -16,7 +16,7 @@ use list_format::Verdict;
 use refusals::Fault;
 
 // What pooling comes to: the count of words, or a refusal: which list it is of, 1 or 2, or 0 for neither, its number and its place.
-#[derive(Drop)]
+#[derive(Clone, Copy)]
 pub enum Pooling {
     Pooled(usize),
     Refused(u32, u32, usize),

@@ -131,7 +131,7 @@ fn lift(words: &[u32], count: usize, top: u32, v: u32, reach: &mut [u32])
 // to raise; each stays a reach.
 
 // What came of a raise along a pair: the register, whether it was raised, and the period that the pair asks for.
-#[derive(Drop)]
+#[derive(Clone, Copy)]
 pub struct Along {
     pub register: usize,
     pub raised: bool,

@@ -42,7 +42,7 @@ pub struct State {
 }
 
 // Where a byte stands in a text, line and column counted from 1.
-#[derive(Drop)]
+#[derive(Clone, Copy)]
 pub struct Place {
     pub line: usize,
     pub column: usize,
@@ -53,7 +53,7 @@ pub const END: u32 = 256;
 
 // What reading a text comes to: the count of its numbers and how many of them are needs, which stand right after the first number; or what
 // is wrong, the line, the column and the byte there.
-#[derive(Drop)]
+#[derive(Clone, Copy)]
 pub enum Scanned {
     Numbers(usize, usize),
     Faulty(u32, usize, usize, u32),

@@ -10,7 +10,7 @@ use list_format::Verdict;
 use refusals::Fault;
 
 // A split is in the answer buffer; none works; or a refusal with its place.
-#[derive(Drop)]
+#[derive(Clone, Copy)]
 pub enum Splitting {
     Split,
     NoSplit,

@@ -3,7 +3,7 @@
 #![tactic(auto)]
 
 // What a step did to the marks: nothing was left to do, a mark was set, or a register was forced both ways.
-#[derive(Drop)]
+#[derive(Clone, Copy)]
 pub enum Change {
     Settled,
     Changed,

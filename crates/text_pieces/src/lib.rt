@@ -20,7 +20,7 @@ pub const SIGNED_WIDTH: usize = 1 + NUMBER_WIDTH;
 pub const REFUSED_WIDTH: usize = 8 + NUMBER_WIDTH + (3 + NUMBER_WIDTH);
 
 // What a program says, with the count of the bytes stored: a text, or a line that tells what is wrong. `specs/Saying.antt`.
-#[derive(Drop)]
+#[derive(Clone, Copy)]
 pub enum Said {
     Text(usize),
     Trouble(usize),

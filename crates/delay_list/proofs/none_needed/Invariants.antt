@@ -1,0 +1,11 @@
+-- `none_needed`: all needs are 0, unless one is found that is not.
+-- Invariant `NoneTo`: those of the first r registers are 0. What falls: needs - r.
+use Rattle.std.proofs.Common.{◌-◌, sym, ◌∙◌, arith, rules}
+use Rattle.list_format.proofs.NeedsLaws.{NoneTo, none-start, none-turn, none_end, found-hold, found-setup}
+use Rattle.delay_list.proofs.none_needed.Given as goal
+
+abbrev pub invariant-loop-r : goal.invariant-loop-r
+invariant-loop-r l = NoneTo l.words l.needs l.r
+
+abbrev pub decreases-loop-r : goal.decreases-loop-r
+decreases-loop-r l = l.needs - l.r

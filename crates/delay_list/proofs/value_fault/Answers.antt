@@ -1,0 +1,15 @@
+-- One check of the run for each `or`.
+use Rattle.refusals.specs.Checks.{or_check, fault_after}
+use Rattle.std.proofs.Common.{rules}
+use Rattle.delay_list.proofs.value_fault.Goals as goal
+
+pub returns : goal.returns
+unfolding or_check fault_after
+returns c = rw (
+  c.or-6.ensures,
+  c.or-5.ensures,
+  c.or-4.ensures,
+  c.or-3.ensures,
+  c.or-2.ensures,
+  c.or.ensures,
+)
