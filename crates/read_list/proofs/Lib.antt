@@ -1,4 +1,2 @@
 -- The laws, which other crates may cite too.
-mod Lent
-mod Storing
 mod TurnLaws

@@ -1,0 +1,14 @@
+-- `body_fault`: the first refusal of the needs, register by register, and then of the pairs and the room.
+-- Invariant `Remaining`: the checks of register r and later ones decide as the whole run does. What falls: n - r.
+use Prim.Native.Nat.{◌-◌}
+use native.Mathlib.Omega.{arith}
+use Rattle.refusals.proofs.CheckLaws.{Remaining, remaining-start, remaining-turn, remaining-stops, remaining-end}
+use Rattle.list_format.specs.Write.{given_need_checks, given_pairs}
+use borrow.Author.Rules.{rules}
+use Rattle.write_list.proofs.body_fault.Given as goal
+
+abbrev pub invariant-loop-r : goal.invariant-loop-r
+invariant-loop-r l = Remaining (given_need_checks l.needs) (given_pairs l.asked l.n l.numbers l.needs l.m l.room) l.n l.r
+
+abbrev pub decreases-loop-r : goal.decreases-loop-r
+decreases-loop-r l = l.n - l.r

@@ -1,0 +1,14 @@
+-- `count_fault`: the checks of the counts in their order, one for each `or`.
+use Rattle.refusals.specs.Checks.{or_check, fault_after}
+use borrow.Author.Rules.{rules}
+use Rattle.write_list.proofs.count_fault.Goals as goal
+
+pub returns : goal.returns
+unfolding or_check fault_after
+returns c = rw (
+  c.or-5.ensures,
+  c.or-4.ensures,
+  c.or-3.ensures,
+  c.or-2.ensures,
+  c.or.ensures,
+)

@@ -1,0 +1,18 @@
+-- `put_pairs`: the words of all pairs, three places each, after the head and the words of needs.
+-- Invariant `Filling`: those of the first k pairs stand there. What falls: m - k.
+use Prim.Native.Nat.{◌+◌, ◌-◌}
+use mathlib.Core.Path.{◌≡◌, refl}
+use native.Mathlib.Omega.{arith}
+use lib.ListN.{length, take}
+use lib.Seq.{length-take-le}
+use Rattle.buffers.proofs.FillLaws.{Filling, filled-self, filling-start, filling-size, filling-end, filling-turn}
+use Rattle.list_format.specs.Lists.{place_by}
+use Rattle.list_format.specs.Write.{given_pair, three_of}
+use borrow.Author.Rules.{rules}
+use Rattle.write_list.proofs.put_pairs.Given as goal
+
+abbrev pub invariant-loop-k : goal.invariant-loop-k
+invariant-loop-k l = Filling (take (1 + l.count) l.initial.answer) (λ i. three_of (given_pair l.numbers i)) l.m l.initial.answer l.answer l.k
+
+abbrev pub decreases-loop-k : goal.decreases-loop-k
+decreases-loop-k l = l.m - l.k

@@ -1,0 +1,27 @@
+-- `write_by`: a refusal keeps the buffer, and numbers that pass every check are written as their list. One law for each.
+use mathlib.Core.Path.{sym, ◌∙◌}
+use Rattle.list_format.proofs.WriteBack.{given-in}
+use Rattle.list_format.proofs.WriteLaws.{write-refused, write-room, write_done}
+use borrow.Author.Rules.{rules}
+use Rattle.write_list.proofs.write_by.Goals as goal
+
+pub put_list-requires : goal.put_list-requires
+put_list-requires c =
+    let s = c.args in
+    let none = sym c.write_fault.ensures ∙ c.in-None.is in (
+      given-in s.asked s.n s.numbers.now s.needs.now _ none,
+      (c.given_needs-count.ensures, write-room s.n s.numbers.now s.needs.now s.answer.now s.asked none),
+    )
+
+pub returns-in-At : goal.returns-in-At
+returns-in-At c =
+    let s = c.args in
+    write-refused s.n s.numbers.now s.needs.now s.answer.now s.asked
+    (sym c.write_fault.ensures ∙ c.in-At.is)
+
+pub returns-in-None : goal.returns-in-None
+returns-in-None c =
+    let s = c.args in
+    let none = sym c.write_fault.ensures ∙ c.in-None.is in
+    let list = c.put_list.ensures in
+    write_done s.n s.numbers.now s.needs.now s.answer.now s.asked none _ _ list.0 list.1
