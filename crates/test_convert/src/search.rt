@@ -92,12 +92,10 @@ fn fate(numbers: &[u32], needs: &[u32], n: u32, m: usize, words: &mut [u32]) -> 
 fn many(delay: u32, need: u32) -> Tally {
     let mut tally = Tally::none();
     let mut seed: u64 = 23;
-    let mut i: u32 = 0;
-    while i < LISTS {
+    for _ in 0..LISTS {
         let t = one(seed, delay, need);
         tally = tally.with(t.fate);
         seed = t.seed;
-        i += 1;
     }
     tally
 }

@@ -26,10 +26,8 @@ const LISTS: u32 = 1_000;
 fn doubled(numbers: &[u32], m: usize, halves: &mut [u32])
     requires { m ≤ max_pairs }
 {
-    let mut k = 0;
-    while k < m {
+    for k in 0..m {
         double(numbers, 4 * k, halves);
-        k += 1;
     }
 }
 
@@ -50,10 +48,8 @@ fn double(numbers: &[u32], at: usize, halves: &mut [u32])
 
 // All needs counted in halves.
 fn doubled_needs(needs: &[u32], halves: &mut [u32]) {
-    let mut i = 0;
-    while i < halves.len() {
+    for i in 0..halves.len() {
         halves[i] = 2 * (rules::at(needs, i) % TIMES);
-        i += 1;
     }
 }
 
@@ -68,12 +64,10 @@ fn least_offset(
 ) -> u32
     requires { m ≤ max_pairs }
 {
-    let mut offset: u32 = 0;
-    while offset <= MOST_OFFSET {
+    for offset in 0..=MOST_OFFSET {
         if rules::first_split(halves, needs, n, m, period, offset, s) {
             return offset;
         }
-        offset += 1;
     }
     MOST_OFFSET + 1
 }
@@ -82,12 +76,10 @@ fn least_offset(
 fn none_below(halves: &[u32], needs: &[u32], n: usize, m: usize, period: u32, s: &mut [u32]) -> bool
     requires { m ≤ max_pairs }
 {
-    let mut t: u32 = 1;
-    while t < period {
+    for t in 1..period {
         if least_offset(halves, needs, n, m, 2 * (t % TIMES), s) <= MOST_OFFSET {
             return false;
         }
-        t += 1;
     }
     true
 }
@@ -187,12 +179,10 @@ fn one(seed: u64, most: u32) -> Turn {
 fn many(most: u32) -> Tally {
     let mut tally = Tally::none();
     let mut seed: u64 = 11;
-    let mut i: u32 = 0;
-    while i < LISTS {
+    for _ in 0..LISTS {
         let t = one(seed, most);
         tally = tally.with(t.fate);
         seed = t.seed;
-        i += 1;
     }
     tally
 }

@@ -44,12 +44,10 @@ fn none(numbers: &[u32], needs: &[u32], n: usize, m: usize, period: u32) -> bool
 fn none_below(numbers: &[u32], needs: &[u32], n: usize, m: usize, period: u32) -> bool
     requires { m ≤ max_pairs }
 {
-    let mut t = 1;
-    while t < period {
+    for t in 1..period {
         if !none(numbers, needs, n, m, t) {
             return false;
         }
-        t += 1;
     }
     true
 }
@@ -113,8 +111,7 @@ fn check_right(
 ) -> u32
     requires { m ≤ max_pairs }
 {
-    let mut left: u32 = SCHEDULES;
-    while left > 0 {
+    for _ in 0..SCHEDULES {
         let low = rules::smallest(numbers, needs, m, PERIOD, s);
         let said = checked(words, m, PERIOD, front(s, n), low);
         if said != rules::broken(numbers, needs, m, PERIOD, s) {
@@ -123,7 +120,6 @@ fn check_right(
         if !rules::advance(s, n, LATEST_CHECKED) {
             return 1;
         }
-        left -= 1;
     }
     2
 }
@@ -161,12 +157,10 @@ fn fate(numbers: &[u32], needs: &[u32], n: usize, m: usize, words: &[u32], check
 fn lists(most: u32, checking: bool) -> Tally {
     let mut tally = Tally::none();
     let mut seed: u64 = 3;
-    let mut i: u32 = 0;
-    while i < LISTS {
+    for _ in 0..LISTS {
         let t = one(seed, most, checking);
         tally = tally.with(t.fate);
         seed = t.seed;
-        i += 1;
     }
     tally
 }

@@ -64,12 +64,10 @@ fn offsets(words: &[u32], numbers: &[u32], needs: &[u32], n: usize, m: usize, pe
     requires m_le_max_pairs { m ≤ max_pairs }
     requires n_le_max_registers { n ≤ max_registers }
 {
-    let mut offset: u32 = 0;
-    while offset <= MOST {
+    for offset in 0..=MOST {
         if !tried(words, numbers, needs, n, m, period, offset) {
             return false;
         }
-        offset += 1;
     }
     true
 }
@@ -79,12 +77,10 @@ fn periods(words: &[u32], numbers: &[u32], needs: &[u32], n: usize, m: usize) ->
     requires m_le_max_pairs { m ≤ max_pairs }
     requires n_le_max_registers { n ≤ max_registers }
 {
-    let mut period: u32 = 1;
-    while period <= MOST {
+    for period in 1..=MOST {
         if !offsets(words, numbers, needs, n, m, period) {
             return 2;
         }
-        period += 1;
     }
     1
 }
@@ -112,12 +108,10 @@ fn one(seed: u64, most: u32) -> Turn {
 fn many(most: u32) -> Tally {
     let mut tally = Tally::none();
     let mut seed: u64 = 5;
-    let mut i: u32 = 0;
-    while i < LISTS {
+    for _ in 0..LISTS {
         let t = one(seed, most);
         tally = tally.with(t.fate);
         seed = t.seed;
-        i += 1;
     }
     tally
 }
