@@ -6,6 +6,7 @@ ghost use Rattle.std.specs.Prelude.{◌≡◌};
 ghost use Rattle.arguments.specs.Arguments.{argument_of};
 
 use scan::{MAX_NUMBERS, Scanned};
+use std::rt::Env;
 
 // One number in decimal, or not.
 #[derive(Clone, Copy)]
@@ -30,9 +31,14 @@ pub fn number_of(text: &[u8]) -> Argument
     }
 }
 
+// The places for an argument. A longer one is no number.
+const SPACE: usize = 4096;
+
 // Argument k of the program, if it is one number in decimal.
-pub fn number(k: usize) -> Argument {
-    let mut space = io::buffer();
-    let size = os::arg(k, &mut space);
-    number_of(&space[..size])
+pub fn number<R: Env>(rt: &R, k: usize) -> Argument {
+    let mut space = [0u8; SPACE];
+    match rt.arg(k, &mut space) {
+        Ok(size) => number_of(&space[..size]),
+        Err(_) => Argument::Wrong,
+    }
 }

@@ -2,6 +2,6 @@
 // on standard input.
 #![tactic(auto)]
 
-fn main() {
-    text_programs::check_schedule(libc::STDOUT_FILENO, libc::STDERR_FILENO);
+fn main(rt: HostRuntime) {
+    text_programs::check_schedule(&rt, &mut rt.stdout(), &mut rt.stderr());
 }

@@ -1,6 +1,6 @@
 // The program `plan` with the name of a file that does not exist.
 #![tactic(auto)]
 
-fn main() {
-    print_plan::plan(libc::STDOUT_FILENO, libc::STDOUT_FILENO);
+fn main(rt: HostRuntime) {
+    print_plan::plan(&rt, &mut rt.stdout(), &mut rt.stdout());
 }

@@ -2,6 +2,6 @@
 // input; or that there is none.
 #![tactic(auto)]
 
-fn main() {
-    text_programs::split_at(libc::STDOUT_FILENO, libc::STDERR_FILENO);
+fn main(rt: HostRuntime) {
+    text_programs::split_at(&rt, &mut rt.stdout(), &mut rt.stderr());
 }

@@ -1,15 +1,24 @@
-// The programs' input and output: every fault of reading and writing is told on the descriptor `errors`.
+// The programs' input and output: every fault of reading and writing is told on the writer `errors`.
 // The contracts say that what was received is handed on whole: the buffers are a byte longer than the longest list and the longest text,
 // so that one that is too long is known by its length.
 #![tactic(auto)]
 
-ghost use Rattle.std.specs.Prelude.{◌≡◌, ◌≤◌, ◌<◌, length, take};
+ghost use Rattle.std.specs.Prelude.{◌≡◌, ◌≤◌, ◌<◌, IfOk, OnOk, length, take};
+ghost use Rattle.std.specs.Io.KnownBytes.{Appends, WriteAppends};
 ghost use Rattle.list_bytes.specs.ListBytes.{max_bytes};
 ghost use Rattle.scan.specs.Scan.{text_bytes};
+ghost use Rattle.streams.specs.Streams.{AllRead, ReceivedAs};
 
-use libc::{PATH_MAX, STDIN_FILENO};
 use list_bytes::MAX_BYTES;
 use scan::TEXT_BYTES;
+use std::env::FillError;
+use std::fs::File;
+use std::io;
+use std::io::{ErrorKind, Read, Write};
+use std::rt::{Env, Files};
+
+// The places for a file's name.
+pub const PATH_MAX: usize = 4096;
 
 // ---- what was received
 
@@ -49,110 +58,80 @@ pub fn name_of<'a>(path: &'a [u8; PATH_MAX], size: usize) -> &'a [u8]
 
 // ---- telling what failed
 
+// The system's numbers of the usual causes.
+const NO_SUCH_FILE: i32 = 2;
+
+const NOTHING_YET: i32 = 11;
+
+const NOT_ALLOWED: i32 = 13;
+
+const A_DIRECTORY: i32 = 21;
+
+const NO_SPACE: i32 = 28;
+
 // What is known of an error by its number.
-fn tell_cause(errors: i32, error: i32) {
-    if error == libc::ENOENT {
-        io::write_all(errors, b": there is no such file\n");
-    } else if error == libc::EACCES {
-        io::write_all(errors, b": that is not allowed\n");
-    } else if error == libc::EISDIR {
-        io::write_all(errors, b": it is a directory\n");
-    } else if error == libc::EAGAIN {
-        io::write_all(errors, b": nothing is there yet\n");
-    } else if error == libc::ENOSPC {
-        io::write_all(errors, b": no space is left\n");
-    } else {
-        io::write_all(errors, b"\n");
+fn cause_of(error: &io::Error) -> &'static [u8] {
+    match error.raw_os_error() {
+        Some(NO_SUCH_FILE) => b": there is no such file\n",
+        Some(NOT_ALLOWED) => b": that is not allowed\n",
+        Some(A_DIRECTORY) => b": it is a directory\n",
+        Some(NOTHING_YET) => b": nothing is there yet\n",
+        Some(NO_SPACE) => b": no space is left\n",
+        _ => b"\n",
     }
 }
 
 // A file or, without a name, standard input: what cannot be done with it, and why.
-fn tell(errors: i32, name: &[u8], what: &[u8]) {
-    let error = os::errno();
-    if name.len() == 0 {
-        io::write_all(errors, b"standard input");
+fn tell<E: Write>(errors: &mut E, name: &[u8], what: &[u8], error: &io::Error) {
+    let subject = if name.len() == 0 {
+        b"standard input"
     } else {
-        io::write_all(errors, name);
-    }
-    io::write_all(errors, what);
-    tell_cause(errors, error);
+        name
+    };
+    let _ = write_all(errors, subject);
+    let _ = write_all(errors, what);
+    let _ = write_all(errors, cause_of(error));
 }
 
 // ---- reading and writing
 
-// So many bytes at most are read at once.
-const CHUNK: usize = 4096;
-
-// How far reading has come.
-#[derive(Drop)]
-pub struct Progress {
-    pub done: usize,
-    pub over: bool,
-    pub failed: bool,
+// One write: some bytes more, or a fault.
+fn write_on<W: Write>(to: &mut W, bytes: &[u8]) -> io::Result<usize>
+    ensures some { IfOk result (λ n. 0 < n) }
+    ensures fits { IfOk result (λ n. n ≤ length bytes.now) }
+    ensures bytes { IfOk result (λ n. Appends (W.contents to.old) (W.contents to.new) (take n bytes.now)) }
+{
+    let count = to.write(bytes)?;
+    if count == 0 {
+        return Err(io::Error::from(ErrorKind::WriteZero));
+    }
+    Ok(count)
 }
 
-fn byte_at(bytes: &[u8], i: usize) -> u8 {
-    if i < bytes.len() { bytes[i] } else { 0 }
-}
-
-// A byte is put in its place, if there is one. The place after it.
-fn put_at(bytes: &mut [u8], place: usize, byte: u8) -> usize {
-    if place >= bytes.len() {
-        return place;
+// All bytes are written, or a write fails.
+fn write_all<W: Write>(to: &mut W, bytes: &[u8]) -> io::Result<()>
+    ensures { OnOk result (Appends (W.contents to.old) (W.contents to.new) bytes.now) }
+{
+    let mut done = 0;
+    while done < bytes.len() {
+        done += write_on(to, &bytes[done..])?;
     }
-    bytes[place] = byte;
-    place + 1
-}
-
-// The first `count` bytes of `from` are put in the places from `at` on, as far as there are any. The place after them.
-fn store(from: &[u8], to: &mut [u8], at: usize, count: usize) -> usize {
-    let mut place = at;
-    let mut i = 0;
-    while i < count {
-        place = put_at(to, place, byte_at(from, i));
-        i += 1;
-    }
-    place
-}
-
-// One read more.
-fn read_on(input: i32, bytes: &mut [u8], chunk: &mut [u8; CHUNK], p: Progress) -> Progress {
-    let mut next = p;
-    next.over = true;
-    if p.done >= bytes.len() {
-        return next;
-    }
-    let got = libc::read(input, chunk);
-    if got < 0 {
-        next.failed = true;
-        return next;
-    }
-    let more = io::count(got, chunk);
-    if more == 0 {
-        return next;
-    }
-    next.over = false;
-    next.done = store(chunk, bytes, p.done, more);
-    next
+    Ok(())
 }
 
 // Reads until the buffer is full, the input ends or a read fails.
-fn read_all(input: i32, bytes: &mut [u8]) -> Progress {
-    let mut chunk = [0u8; CHUNK];
-    let mut p = Progress {
-        done: 0,
-        over: false,
-        failed: false,
-    };
-    let mut left = bytes.len();
-    while left > 0 {
-        left -= 1;
-        p = read_on(input, bytes, &mut chunk, p);
-        if p.over {
-            return p;
+fn read_all<R: Read>(input: &mut R, bytes: &mut [u8]) -> io::Result<usize>
+    ensures { IfOk result (λ n. AllRead (R.remaining input.old) (R.remaining input.new) bytes.new n) }
+{
+    let mut done = 0;
+    while done < bytes.len() {
+        let more = input.read(&mut bytes[done..])?;
+        if more == 0 {
+            return Ok(done);
         }
+        done += more;
     }
-    p
+    Ok(done)
 }
 
 // What reading comes to: so many bytes, or a fault that has been told.
@@ -163,57 +142,117 @@ pub enum Got {
 }
 
 // The bytes of the file with that name, or of standard input.
-pub fn receive(input: i32, name: &[u8], bytes: &mut [u8], errors: i32) -> Got {
-    let p = read_all(input, bytes);
-    if p.failed {
-        tell(errors, name, b" cannot be read");
-        return Got::Nothing;
+pub fn receive<R: Read, E: Write>(
+    input: &mut R,
+    name: &[u8],
+    bytes: &mut [u8],
+    errors: &mut E,
+) -> Got
+    ensures { ReceivedAs (R.remaining input.old) (R.remaining input.new) bytes.new result }
+{
+    match read_all(input, bytes) {
+        Ok(done) => Got::Bytes(done),
+        Err(error) => {
+            tell(errors, name, b" cannot be read", &error);
+            Got::Nothing
+        }
     }
-    Got::Bytes(p.done)
 }
 
 // All bytes are written, or it is told that they were not.
-pub fn write_out(output: i32, bytes: &[u8], errors: i32) {
-    if !io::write_all(output, bytes) {
-        tell(errors, b"standard output", b" cannot be written");
+pub fn write_out<O: Write, E: Write>(output: &mut O, bytes: &[u8], errors: &mut E) {
+    if let Err(error) = write_all(output, bytes) {
+        tell(errors, b"standard output", b" cannot be written", &error);
+    }
+}
+
+// The same, for what goes to the writer of the errors itself.
+pub fn complain<E: Write>(errors: &mut E, bytes: &[u8]) {
+    if let Err(error) = write_all(errors, bytes) {
+        tell(errors, b"standard output", b" cannot be written", &error);
+    }
+}
+
+// The lines of a text, each of them by `write_out`.
+pub fn write_lines<O: Write, E: Write>(output: &mut O, lines: &[&str], errors: &mut E) {
+    for line in lines {
+        write_out(output, line.as_bytes(), errors);
+    }
+}
+
+// The same, for what goes to the writer of the errors itself.
+pub fn complain_lines<E: Write>(errors: &mut E, lines: &[&str]) {
+    for line in lines {
+        complain(errors, line.as_bytes());
     }
 }
 
 // ---- arguments
 
-// Where a program reads from: a descriptor, with the length of the file's name, 0 for standard input; else it was asked for help, or
-// called wrongly, or has told why it reads nothing.
+// What is read: standard input or a file.
 #[derive(Drop)]
-pub enum Source {
-    Given(i32, usize),
+pub enum Given<I, F> {
+    Standard(I),
+    File(F),
+}
+
+impl<I: Read, F: Read> Read for Given<I, F> {
+    fn read(&mut self, buf: &mut [u8]) -> io::Result<usize> {
+        match self {
+            Given::Standard(input) => input.read(buf),
+            Given::File(file) => file.read(buf),
+        }
+    }
+}
+
+// Where a program reads from, with the length of the file's name, 0 for standard input; else it was asked for help, or called wrongly, or
+// has told why it reads nothing.
+#[derive(Drop)]
+pub enum Source<I, F> {
+    Given(Given<I, F>, usize),
     Help,
     Misused,
     Nothing,
 }
 
-fn same(a: &[u8], b: &[u8]) -> bool {
-    let n = a.len();
-    let mut equal = n == b.len();
-    let mut i = 0;
-    while i < n {
-        equal = equal && byte_at(a, i) == byte_at(b, i);
-        i += 1;
+// Argument k, in the first places of `space`; nothing where there is none, or one longer than that.
+pub fn argument<R: Env>(rt: &R, k: usize, space: &mut [u8]) -> usize
+    ensures { result ≤ length space.new }
+{
+    match rt.arg(k, space) {
+        Ok(size) => size,
+        Err(_) => 0,
     }
-    equal
 }
 
-fn asks_help(k: usize) -> bool {
-    let mut space = io::buffer();
-    let size = os::arg(k, &mut space);
-    same(&space[..size], b"--help")
+fn is_there<R: Env>(rt: &R, k: usize) -> bool {
+    let mut space = [0u8; PATH_MAX];
+    match rt.arg(k, &mut space) {
+        Err(FillError::NotPresent) => false,
+        _ => true,
+    }
+}
+
+// How many arguments there are, the program's name among them.
+fn argument_count<R: Env>(rt: &R) -> usize {
+    for k in 0..usize::MAX {
+        if !is_there(rt, k) {
+            return k;
+        }
+    }
+    usize::MAX
+}
+
+fn asks_help<R: Env>(rt: &R, k: usize) -> bool {
+    let mut space = [0u8; PATH_MAX];
+    let size = argument(rt, k, &mut space);
+    first_of(&space, size) == b"--help".as_slice()
 }
 
 // Whether one of the arguments asks for help.
-fn help_asked(count: usize) -> bool {
-    let mut left = count;
-    while left > 1 {
-        left -= 1;
-        if asks_help(left) {
+fn help_asked<R: Env>(rt: &R, count: usize) -> bool {
+    for k in 1..count {
+        if asks_help(rt, k) {
             return true;
         }
     }
@@ -228,25 +267,44 @@ fn is_name(name: &[u8]) -> bool {
     name[0] != b'-'
 }
 
+// A file is open for reading.
+fn open_named<R: Files>(rt: &R, name: &[u8]) -> io::Result<R::File> {
+    match std::str::from_utf8(name) {
+        Ok(path) => File::open(rt, path),
+        Err(_) => Err(io::Error::from(ErrorKind::InvalidFilename)),
+    }
+}
+
 // The file that argument k names.
-pub fn open(k: usize, path: &mut [u8; PATH_MAX], errors: i32) -> Source {
-    let size = os::arg(k, path);
+pub fn open<R: Env + Files + Input, E: Write>(
+    rt: &R,
+    k: usize,
+    path: &mut [u8; PATH_MAX],
+    errors: &mut E,
+) -> Source<R::Reader, R::File> {
+    let size = argument(rt, k, path);
     let name = name_of(path, size);
     if !is_name(name) {
         return Source::Misused;
     }
-    let input = os::open_read(name);
-    if input < 0 {
-        tell(errors, name, b" cannot be opened");
-        return Source::Nothing;
+    match open_named(rt, name) {
+        Ok(file) => Source::Given(Given::File(file), size),
+        Err(error) => {
+            tell(errors, name, b" cannot be opened", &error);
+            Source::Nothing
+        }
     }
-    Source::Given(input, size)
 }
 
 // Where a program with so many arguments of its own reads from: the file that one more argument names, or standard input.
-pub fn input_of(own: usize, path: &mut [u8; PATH_MAX], errors: i32) -> Source {
-    let count = os::arg_count();
-    if help_asked(count) {
+pub fn input_of<R: Env + Files + Input, E: Write>(
+    rt: &R,
+    own: usize,
+    path: &mut [u8; PATH_MAX],
+    errors: &mut E,
+) -> Source<R::Reader, R::File> {
+    let count = argument_count(rt);
+    if help_asked(rt, count) {
         return Source::Help;
     }
     if own >= count {
@@ -254,10 +312,10 @@ pub fn input_of(own: usize, path: &mut [u8; PATH_MAX], errors: i32) -> Source {
     }
     let given = count - own;
     if given == 1 {
-        return Source::Given(STDIN_FILENO, 0);
+        return Source::Given(Given::Standard(rt.reader()), 0);
     }
     if given == 2 {
-        return open(own + 1, path, errors);
+        return open(rt, own + 1, path, errors);
     }
     Source::Misused
 }

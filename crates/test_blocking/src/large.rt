@@ -6,6 +6,7 @@ ghost use Rattle.timing.specs.Limits.{max_registers, max_pairs};
 use crate::{chains, order};
 use blocking::Reason;
 use planner::Planning;
+use std::io;
 use test_kit::lists::needy;
 use test_kit::places::{DIRT, front};
 use test_kit::{largest, random, show};
@@ -60,24 +61,31 @@ fn path(by_hold: bool, against: bool, numbers: &mut [u32]) {
 }
 
 // How a call fared, with the lengths of its chains.
-fn tell(fate: u32, r: Reason) {
+fn tell(rt: &impl Print, fate: u32, r: Reason) -> io::Result<()> {
     if fate == chains::WRONG {
-        show::text(b"wrong\n");
-        return;
+        return show::text(rt, "wrong\n");
     }
     match r {
-        Reason::Refused(code, place) => show::refusal(code, place),
-        Reason::Workable => show::text(b"workable\n"),
+        Reason::Refused(code, place) => show::refusal(rt, code, place),
+        Reason::Workable => show::text(rt, "workable\n"),
         Reason::Blocked(_, first, second) => {
-            show::text(b"blocked by ");
-            show::count(first, b" and ");
-            show::count(second, b" steps\n");
+            show::text(rt, "blocked by ")?;
+            show::count(rt, first, " and ")?;
+            show::count(rt, second, " steps\n")
         }
     }
 }
 
 // A list of 512 registers at a period, and whether some split works at it.
-fn tried(words: &[u32], numbers: &[u32], needs: &[u32], m: usize, period: u32, works: bool)
+fn tried(
+    rt: &impl Print,
+    words: &[u32],
+    numbers: &[u32],
+    needs: &[u32],
+    m: usize,
+    period: u32,
+    works: bool,
+) -> io::Result<()>
     requires { m ≤ max_pairs }
 {
     let mut answer = [DIRT; ANSWER + 1];
@@ -85,23 +93,38 @@ fn tried(words: &[u32], numbers: &[u32], needs: &[u32], m: usize, period: u32, w
     let r = blocking::why_not(words, period, &mut answer, &mut scratch);
     let n = largest::REGISTERS;
     tell(
+        rt,
         chains::fate(works, r, numbers, needs, n, m, period, &answer, &scratch),
         r,
-    );
+    )
 }
 
-fn try_path(label: &[u8], by_hold: bool, against: bool) {
+fn try_path(rt: &impl Print, label: &str, by_hold: bool, against: bool) -> io::Result<()> {
     let mut numbers = [0u32; NUMBERS];
     let needs = [0u32; largest::NEEDS];
     let mut words = [0u32; 3 * SLOW + 2];
     path(by_hold, against, &mut numbers);
     let count = needy(largest::REGISTERS, &numbers, &needs, &mut words);
-    show::text(label);
-    tried(front(&words, count), &numbers, &needs, SLOW, PERIOD, false);
+    show::text(rt, label)?;
+    tried(
+        rt,
+        front(&words, count),
+        &numbers,
+        &needs,
+        SLOW,
+        PERIOD,
+        false,
+    )
 }
 
 // A random list with needs, at its two-timing period and at one less.
-fn try_random(label: &[u8], seed: u64, most: u32, most_need: u32) {
+fn try_random(
+    rt: &impl Print,
+    label: &str,
+    seed: u64,
+    most: u32,
+    most_need: u32,
+) -> io::Result<()> {
     let mut numbers = [0u32; largest::NUMBERS];
     let mut needs = [0u32; largest::NEEDS];
     let mut words = [0u32; largest::WORDS];
@@ -116,24 +139,26 @@ fn try_random(label: &[u8], seed: u64, most: u32, most_need: u32) {
     );
     let count = needy(largest::REGISTERS, &numbers, &needs, &mut words);
     let two = planned(front(&words, count));
-    show::text(label);
+    show::text(rt, label)?;
     tried(
+        rt,
         front(&words, count),
         &numbers,
         &needs,
         largest::PAIRS,
         two,
         true,
-    );
-    show::text(b"one less: ");
+    )?;
+    show::text(rt, "one less: ")?;
     tried(
+        rt,
         front(&words, count),
         &numbers,
         &needs,
         largest::PAIRS,
         std::num::wrapping_sub_u32(two, 1),
         false,
-    );
+    )
 }
 
 // The two-timing period, 0 if the list is refused.
@@ -146,17 +171,18 @@ fn planned(words: &[u32]) -> u32 {
     }
 }
 
-pub fn lists() {
-    try_path(b"a path of 512: ", false, false);
-    try_path(b"the same against the list: ", false, true);
-    try_path(b"the same by hold: ", true, false);
-    try_path(b"by hold, against the list: ", true, true);
+pub fn lists(rt: &impl Print) -> io::Result<()> {
+    try_path(rt, "a path of 512: ", false, false)?;
+    try_path(rt, "the same against the list: ", false, true)?;
+    try_path(rt, "the same by hold: ", true, false)?;
+    try_path(rt, "by hold, against the list: ", true, true)?;
     try_random(
-        b"512 registers, 2048 pairs, at the two-timing period: ",
+        rt,
+        "512 registers, 2048 pairs, at the two-timing period: ",
         17,
         1_000,
         0,
-    );
-    try_random(b"delays to 1000000: ", 19, timing::MAX_DELAY, 0);
-    try_random(b"needs to 100: ", 17, 1_000, 100);
+    )?;
+    try_random(rt, "delays to 1000000: ", 19, timing::MAX_DELAY, 0)?;
+    try_random(rt, "needs to 100: ", 17, 1_000, 100)
 }

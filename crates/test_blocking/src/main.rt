@@ -9,9 +9,11 @@ mod large;
 mod order;
 mod small;
 
-fn main() {
-    examples::answers();
-    examples::refusals();
-    small::lists();
-    large::lists();
+use std::io;
+
+fn main(rt: HostRuntime) -> io::Result<()> {
+    examples::answers(&rt)?;
+    examples::refusals(&rt)?;
+    small::lists(&rt)?;
+    large::lists(&rt)
 }

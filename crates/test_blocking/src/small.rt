@@ -4,6 +4,7 @@ ghost use Rattle.std.specs.Prelude.{◌≤◌};
 ghost use Rattle.timing.specs.Limits.{max_pairs};
 
 use crate::chains;
+use std::io;
 use test_kit::lists::needy;
 use test_kit::places::{DIRT, front};
 use test_kit::tally::Tally;
@@ -170,22 +171,24 @@ fn many(most: u32) -> Tally {
     tally
 }
 
-fn tell(label: &[u8], t: Tally) {
-    show::text(label);
-    show::count(t.zeros, b" workable, ");
-    show::count(t.ones, b" blocked, ");
-    show::count(t.others, b" wrong\n");
+fn tell(rt: &impl Print, label: &str, t: Tally) -> io::Result<()> {
+    show::text(rt, label)?;
+    show::count(rt, t.zeros, " workable, ")?;
+    show::count(rt, t.ones, " blocked, ")?;
+    show::count(rt, t.others, " wrong\n")
 }
 
-pub fn lists() {
+pub fn lists(rt: &impl Print) -> io::Result<()> {
     tell(
-        b"every list of one register, delays to 3, at every period: ",
+        rt,
+        "every list of one register, delays to 3, at every period: ",
         every(1, 1, CHOICES),
-    );
+    )?;
     tell(
-        b"every list of two registers, delays to 3, at every period: ",
+        rt,
+        "every list of two registers, delays to 3, at every period: ",
         every(2, 4, CHOICES * CHOICES * CHOICES * CHOICES),
-    );
-    tell(b"random lists at every period: ", many(0));
-    tell(b"the same with needs: ", many(NEED));
+    )?;
+    tell(rt, "random lists at every period: ", many(0))?;
+    tell(rt, "the same with needs: ", many(NEED))
 }

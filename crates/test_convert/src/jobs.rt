@@ -7,6 +7,7 @@ use converter::Converting;
 use list_format::Writing;
 use planner::Planning;
 use split::Splitting;
+use std::io;
 use test_kit::places::{DIRT, front, kept, rest, same};
 use test_kit::rules;
 use test_kit::tally::{Tally, Turn};
@@ -297,7 +298,10 @@ fn many(need: u32) -> Tally {
     tally
 }
 
-pub fn lists() {
-    many(0).tell(b"plans and splits of converted lists against searches over the stored pairs: ");
-    many(NEED).tell(b"the same with needs: ");
+pub fn lists(rt: &impl Print) -> io::Result<()> {
+    many(0).tell(
+        rt,
+        "plans and splits of converted lists against searches over the stored pairs: ",
+    )?;
+    many(NEED).tell(rt, "the same with needs: ")
 }

@@ -3,6 +3,7 @@ ghost use Rattle.std.specs.Prelude.{◌^◌, ◌<◌, ◌≤◌};
 
 use converter::Converting;
 use list_format::{Reading, Writing};
+use std::io;
 use test_kit::places::{DIRT, front, kept, rest, same};
 use test_kit::rules::number;
 use test_kit::{largest, random, show};
@@ -89,53 +90,51 @@ fn as_asked(back: &[u32], n: u32, m: u32, needs: &[u32], copies: u32) -> bool
 }
 
 // Reads a converted list, and tells whether it is what it should be.
-fn tell(words: &[u32], needs: &[u32], copies: u32)
+fn tell(rt: &impl Print, words: &[u32], needs: &[u32], copies: u32) -> io::Result<()>
     requires { 1 ≤ copies }
 {
     let mut back = [DIRT; largest::READ];
     match read_list::read(words, &mut back) {
-        Reading::Refused(code, place) => show::refusal(code, place),
+        Reading::Refused(code, place) => show::refusal(rt, code, place),
         Reading::Read(n, m) => {
-            show::count(m, b" pairs, ");
-            show_right(as_asked(&back, n, m, needs, copies));
+            show::count(rt, m, " pairs, ")?;
+            show_right(rt, as_asked(&back, n, m, needs, copies))
         }
     }
 }
 
-fn show_right(yes: bool) {
+fn show_right(rt: &impl Print, yes: bool) -> io::Result<()> {
     if yes {
-        show::text(b"right\n");
-        return;
+        return show::text(rt, "right\n");
     }
-    show::text(b"wrong\n");
+    show::text(rt, "wrong\n")
 }
 
 // Converts a list, and tells of every place of the buffer.
-fn converted(words: &[u32], needs: &[u32], copies: u32)
+fn converted(rt: &impl Print, words: &[u32], needs: &[u32], copies: u32) -> io::Result<()>
     requires { 1 ≤ copies }
 {
     let mut answer = [DIRT; largest::WORDS];
     match converter::convert(words, &mut answer) {
-        Converting::Refused(code, place) => show::refusal(code, place),
+        Converting::Refused(code, place) => show::refusal(rt, code, place),
         Converting::Converted(count) => {
-            show::number(count as u64);
-            show::text(b" words, later places ");
-            show_kept(kept(&answer, count));
-            tell(front(&answer, count), needs, copies);
+            show::number(rt, count as u64)?;
+            show::text(rt, " words, later places ")?;
+            show_kept(rt, kept(&answer, count))?;
+            tell(rt, front(&answer, count), needs, copies)
         }
     }
 }
 
-fn show_kept(yes: bool) {
+fn show_kept(rt: &impl Print, yes: bool) -> io::Result<()> {
     if yes {
-        show::text(b"kept, ");
-        return;
+        return show::text(rt, "kept, ");
     }
-    show::text(b"changed, ");
+    show::text(rt, "changed, ")
 }
 
 // All pairs with needs up to `need`.
-fn list(label: &[u8], scattered: bool, copies: u32, need: u32)
+fn list(rt: &impl Print, label: &str, scattered: bool, copies: u32, need: u32) -> io::Result<()>
     requires { 1 ≤ copies }
 {
     let mut given = [0u32; largest::NUMBERS];
@@ -143,25 +142,26 @@ fn list(label: &[u8], scattered: bool, copies: u32, need: u32)
     let mut words = [0u32; largest::WORDS];
     numbers(scattered, copies, &mut given);
     random::needs(31, need, &mut needs);
-    show::text(label);
+    show::text(rt, label)?;
     match write_list::write_stored(largest::REGISTERS, &given, &needs, &mut words) {
-        Writing::Refused(code, place) => show::refusal(code, place),
-        Writing::Written(count) => converted(front(&words, count), &needs, copies),
+        Writing::Refused(code, place) => show::refusal(rt, code, place),
+        Writing::Written(count) => converted(rt, front(&words, count), &needs, copies),
     }
 }
 
-pub fn lists() {
+pub fn lists(rt: &impl Print) -> io::Result<()> {
     list(
-        b"512 registers, 2048 pairs in descending order: ",
+        rt,
+        "512 registers, 2048 pairs in descending order: ",
         false,
         1,
         0,
-    );
-    list(b"the same with needs: ", false, 1, MAX_NEED);
-    list(b"in scattered order: ", true, 1, 0);
-    list(b"the same with needs: ", true, 1, MAX_NEED);
-    list(b"two of each pair: ", true, 2, 0);
-    list(b"the same with needs: ", true, 2, MAX_NEED);
-    list(b"all of one pair: ", true, ALL, 0);
-    list(b"the same with needs: ", false, ALL, MAX_NEED);
+    )?;
+    list(rt, "the same with needs: ", false, 1, MAX_NEED)?;
+    list(rt, "in scattered order: ", true, 1, 0)?;
+    list(rt, "the same with needs: ", true, 1, MAX_NEED)?;
+    list(rt, "two of each pair: ", true, 2, 0)?;
+    list(rt, "the same with needs: ", true, 2, MAX_NEED)?;
+    list(rt, "all of one pair: ", true, ALL, 0)?;
+    list(rt, "the same with needs: ", false, ALL, MAX_NEED)
 }

@@ -12,15 +12,17 @@ mod refused;
 mod search;
 mod show;
 
-fn main() {
-    examples::repeats();
-    examples::orders();
-    examples::unchanged();
-    examples::rooms();
-    refused::lists();
-    refused::needs();
-    refused::first();
-    search::lists();
-    jobs::lists();
-    large::lists();
+use std::io;
+
+fn main(rt: HostRuntime) -> io::Result<()> {
+    examples::repeats(&rt)?;
+    examples::orders(&rt)?;
+    examples::unchanged(&rt)?;
+    examples::rooms(&rt)?;
+    refused::lists(&rt)?;
+    refused::needs(&rt)?;
+    refused::first(&rt)?;
+    search::lists(&rt)?;
+    jobs::lists(&rt)?;
+    large::lists(&rt)
 }

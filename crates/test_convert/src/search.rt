@@ -2,6 +2,7 @@
 use crate::{drawn, plain};
 use converter::Converting;
 use list_format::Writing;
+use std::io;
 use test_kit::places::{DIRT, front, same};
 use test_kit::tally::{Tally, Turn};
 
@@ -101,8 +102,8 @@ fn many(delay: u32, need: u32) -> Tally {
     tally
 }
 
-pub fn lists() {
-    many(DELAY, 0).tell(b"random stored lists against a plain conversion: ");
-    many(DELAY, timing::MAX_NEED).tell(b"the same with needs: ");
-    many(3, 2).tell(b"delays to 5, needs to 2: ");
+pub fn lists(rt: &impl Print) -> io::Result<()> {
+    many(DELAY, 0).tell(rt, "random stored lists against a plain conversion: ")?;
+    many(DELAY, timing::MAX_NEED).tell(rt, "the same with needs: ")?;
+    many(3, 2).tell(rt, "delays to 5, needs to 2: ")
 }

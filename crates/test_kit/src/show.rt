@@ -1,45 +1,42 @@
 // Lines of text on standard output.
-use libc::STDOUT_FILENO;
+use std::io;
 
-pub fn text(bytes: &[u8]) {
-    io::write_all(STDOUT_FILENO, bytes);
+pub fn text(rt: &impl Print, text: &str) -> io::Result<()> {
+    rt.print(text)
 }
 
-pub fn number(n: u64) {
-    io::print_decimal(STDOUT_FILENO, n);
+pub fn number(rt: &impl Print, n: u64) -> io::Result<()> {
+    rt.print(n)
 }
 
 // A count with what was counted after it.
-pub fn count(n: u32, what: &[u8]) {
-    number(n as u64);
-    text(what);
+pub fn count(rt: &impl Print, n: u32, what: &str) -> io::Result<()> {
+    number(rt, n as u64)?;
+    text(rt, what)
 }
 
-pub fn refusal(code: u32, place: usize) {
-    text(b"refused ");
-    number(code as u64);
-    text(b" at ");
-    number(place as u64);
-    text(b"\n");
+pub fn refusal(rt: &impl Print, code: u32, place: usize) -> io::Result<()> {
+    text(rt, "refused ")?;
+    number(rt, code as u64)?;
+    text(rt, " at ")?;
+    number(rt, place as u64)?;
+    text(rt, "\n")
 }
 
-fn spaced(x: u32) {
-    text(b" ");
-    number(x as u64);
+fn spaced(rt: &impl Print, x: u32) -> io::Result<()> {
+    text(rt, " ")?;
+    number(rt, x as u64)
 }
 
-fn each(xs: &[u32], n: usize) {
-    let mut i = 0;
-    while i < n {
-        if i < xs.len() {
-            spaced(xs[i]);
-        }
-        i += 1;
+fn each(rt: &impl Print, xs: &[u32], n: usize) -> io::Result<()> {
+    for x in xs.iter().take(n) {
+        spaced(rt, *x)?;
     }
+    Ok(())
 }
 
 // The first `n` of some numbers, on a line.
-pub fn numbers(xs: &[u32], n: usize) {
-    each(xs, n);
-    text(b"\n");
+pub fn numbers(rt: &impl Print, xs: &[u32], n: usize) -> io::Result<()> {
+    each(rt, xs, n)?;
+    text(rt, "\n")
 }

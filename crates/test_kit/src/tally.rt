@@ -1,5 +1,6 @@
 // A tally of what came of many runs.
 use crate::show;
+use std::io;
 
 // The most that is counted.
 const MOST: u32 = 1_000_000;
@@ -12,7 +13,7 @@ pub struct Turn {
 }
 
 // How many runs had fate 0, fate 1, and any other.
-#[derive(Drop)]
+#[derive(Clone, Copy)]
 pub struct Tally {
     pub zeros: u32,
     pub ones: u32,
@@ -49,9 +50,9 @@ impl Tally {
     }
 
     // A line with how many were right, which is fate 1, and how many wrong.
-    pub fn tell(self, label: &[u8]) {
-        show::text(label);
-        show::count(self.ones, b" right, ");
-        show::count(self.others, b" wrong\n");
+    pub fn tell(self, rt: &impl Print, label: &str) -> io::Result<()> {
+        show::text(rt, label)?;
+        show::count(rt, self.ones, " right, ")?;
+        show::count(rt, self.others, " wrong\n")
     }
 }

@@ -1,25 +1,26 @@
 // Worked examples: lists that pass, and each refusal with its place.
 use crate::show::{reading, writing};
+use std::io;
 use test_kit::show;
 
 // Reads a list into sixteen places that hold 9, and shows the answer and the first fourteen places.
-fn read(label: &[u8], words: &[u32]) {
+fn read(rt: &impl Print, label: &str, words: &[u32]) -> io::Result<()> {
     let mut answer = [9u32; 16];
-    show::text(label);
-    reading(read_list::read(words, &mut answer));
-    show::numbers(&answer, 14);
+    show::text(rt, label)?;
+    reading(rt, read_list::read(words, &mut answer))?;
+    show::numbers(rt, &answer, 14)
 }
 
 // Writes a list into twelve places that hold 9, and shows the answer and the first eleven places.
-fn write(label: &[u8], n: u32, numbers: &[u32], needs: &[u32]) {
+fn write(rt: &impl Print, label: &str, n: u32, numbers: &[u32], needs: &[u32]) -> io::Result<()> {
     let mut answer = [9u32; 12];
-    show::text(label);
-    writing(write_list::write(n, numbers, needs, &mut answer));
-    show::numbers(&answer, 11);
+    show::text(rt, label)?;
+    writing(rt, write_list::write(n, numbers, needs, &mut answer))?;
+    show::numbers(rt, &answer, 11)
 }
 
 // Lists that pass. List P is 0-1 7/10 and 1-0 1/3.
-pub fn lists() {
+pub fn lists(rt: &impl Print) -> io::Result<()> {
     let p = [
         0x2000_2002u32,
         0x4000_0001,
@@ -30,15 +31,15 @@ pub fn lists() {
         0x8000_0003,
         0xE000_2418,
     ];
-    read(b"P: ", &p);
+    read(rt, "P: ", &p)?;
     let numbers = [0u32, 1, 7, 10, 1, 0, 1, 3];
-    write(b"P written: ", 2, &numbers, &[0u32, 0, 0, 0]);
+    write(rt, "P written: ", 2, &numbers, &[0u32, 0, 0, 0])?;
     let empty = [0x2000_3000u32, 0xE000_3000];
-    read(b"three registers, no pairs: ", &empty);
+    read(rt, "three registers, no pairs: ", &empty)
 }
 
 // Lists with needs that pass: P with hold 1 and setup 2 of register 0, hold 2 and setup 1 of register 1; needs without pairs.
-pub fn needy_lists() {
+pub fn needy_lists(rt: &impl Print) -> io::Result<()> {
     let p = [
         0x2000_2002u32,
         0xA000_8001,
@@ -51,38 +52,45 @@ pub fn needy_lists() {
         0x8000_0003,
         0xE000_E41B,
     ];
-    read(b"P with needs: ", &p);
+    read(rt, "P with needs: ", &p)?;
     let numbers = [0u32, 1, 7, 10, 1, 0, 1, 3];
-    write(b"P with needs written: ", 2, &numbers, &[1u32, 2, 2, 1]);
+    write(rt, "P with needs written: ", 2, &numbers, &[1u32, 2, 2, 1])?;
     let empty = [0x2000_1000u32, 0xA000_0001, 0xE000_1001];
-    read(b"one register with a need, no pairs: ", &empty);
-    write(b"the same written: ", 1, &[], &[1u32, 0]);
+    read(rt, "one register with a need, no pairs: ", &empty)?;
+    write(rt, "the same written: ", 1, &[], &[1u32, 0])
 }
 
 // Lists that are refused before their pairs are looked at.
-pub fn refused_lists() {
+pub fn refused_lists(rt: &impl Print) -> io::Result<()> {
     let one = [0x2000_3000u32];
-    read(b"one word: ", &one);
+    read(rt, "one word: ", &one)?;
     let kind = [0x4000_3000u32, 0xE000_3000];
-    read(b"head of kind 2: ", &kind);
+    read(rt, "head of kind 2: ", &kind)?;
     let spare = [0x2040_3000u32, 0xE040_3000];
-    read(b"head with a spare bit: ", &spare);
+    read(rt, "head with a spare bit: ", &spare)?;
     let registers = [0x2000_0000u32, 0xE000_0000];
-    read(b"no registers: ", &registers);
+    read(rt, "no registers: ", &registers)?;
     let many = [0x2020_1000u32, 0xE020_1000];
-    read(b"513 registers: ", &many);
+    read(rt, "513 registers: ", &many)?;
     let pairs = [0x2000_1801u32, 0xE000_1801];
-    read(b"2049 pairs: ", &pairs);
+    read(rt, "2049 pairs: ", &pairs)?;
     let count = [0x2000_3001u32, 0xE000_3001];
-    read(b"one pair, two words: ", &count);
+    read(rt, "one pair, two words: ", &count)?;
     let needs = [0x2000_2000u32, 0xA000_0001, 0xE000_2001];
-    read(b"needs of one register of two: ", &needs);
+    read(rt, "needs of one register of two: ", &needs)?;
     let end = [0x2000_1000u32, 0xA000_1000];
-    read(b"needs in place of the end: ", &end);
+    read(rt, "needs in place of the end: ", &end)
 }
 
 // One pair of n registers in three words, with the right head and end.
-fn pair(label: &[u8], n: u32, pair: u32, least: u32, greatest: u32) {
+fn pair(
+    rt: &impl Print,
+    label: &str,
+    n: u32,
+    pair: u32,
+    least: u32,
+    greatest: u32,
+) -> io::Result<()> {
     let mut list = [
         words::head_word(n % (timing::MAX_REGISTERS + 1), 1),
         pair,
@@ -91,11 +99,18 @@ fn pair(label: &[u8], n: u32, pair: u32, least: u32, greatest: u32) {
         0,
     ];
     list[4] = words::word_of(words::KIND_END, words::end_payload(&list, 4));
-    read(label, &list);
+    read(rt, label, &list)
 }
 
 // A pair from register 0 to register 1 of two, with the needs of both in two words before it.
-fn needy_pair(label: &[u8], first: u32, second: u32, least: u32, greatest: u32) {
+fn needy_pair(
+    rt: &impl Print,
+    label: &str,
+    first: u32,
+    second: u32,
+    least: u32,
+    greatest: u32,
+) -> io::Result<()> {
     let mut list = [
         words::head_word(2, 1),
         first,
@@ -106,185 +121,245 @@ fn needy_pair(label: &[u8], first: u32, second: u32, least: u32, greatest: u32) 
         0,
     ];
     list[6] = words::word_of(words::KIND_END, words::end_payload(&list, 6));
-    read(label, &list);
+    read(rt, label, &list)
 }
 
 // The largest needs, and larger ones.
-pub fn needs() {
+pub fn needs(rt: &impl Print) -> io::Result<()> {
     needy_pair(
-        b"needs 9999: ",
+        rt,
+        "needs 9999: ",
         0xA9C3_E70F,
         0xA9C3_E70F,
         0x6000_270F,
         0x8000_270F,
-    );
+    )?;
     needy_pair(
-        b"hold 10000: ",
+        rt,
+        "hold 10000: ",
         0xA000_0001,
         0xA000_2710,
         0x6000_2710,
         0x8000_2710,
-    );
+    )?;
     needy_pair(
-        b"setup 10000: ",
+        rt,
+        "setup 10000: ",
         0xA9C4_0000,
         0xA000_2710,
         0x6000_2710,
         0x8000_2710,
-    );
+    )
 }
 
 // Words in the place of needs that are none, or not all that a word of needs may be.
-pub fn kinds_of_needs() {
+pub fn kinds_of_needs(rt: &impl Print) -> io::Result<()> {
     needy_pair(
-        b"needs with a spare bit: ",
+        rt,
+        "needs with a spare bit: ",
         0xB000_0001,
         0xA000_0001,
         0x6000_0007,
         0x8000_000A,
-    );
+    )?;
     needy_pair(
-        b"second needs of kind 2: ",
+        rt,
+        "second needs of kind 2: ",
         0xA000_0001,
         0x4000_0001,
         0x6000_0007,
         0x8000_000A,
-    );
+    )?;
     needy_pair(
-        b"second needs of kind 6: ",
+        rt,
+        "second needs of kind 6: ",
         0xA000_0000,
         0xC000_0000,
         0x6000_0007,
         0x8000_000A,
-    );
+    )?;
     needy_pair(
-        b"first needs of kind 4: ",
+        rt,
+        "first needs of kind 4: ",
         0x8000_0001,
         0xA000_0001,
         0x6000_0007,
         0x8000_000A,
-    );
+    )
 }
 
 // Needs that are all 0, before and after other faults.
-pub fn needs_of_zeros() {
+pub fn needs_of_zeros(rt: &impl Print) -> io::Result<()> {
     needy_pair(
-        b"needs of zeros: ",
+        rt,
+        "needs of zeros: ",
         0xA000_0000,
         0xA000_0000,
         0x6000_0007,
         0x8000_000A,
-    );
+    )?;
     needy_pair(
-        b"needs of zeros, 4/3: ",
+        rt,
+        "needs of zeros, 4/3: ",
         0xA000_0000,
         0xA000_0000,
         0x6000_0004,
         0x8000_0003,
-    );
+    )
 }
 
 // A least delay and the hold of the capture register; the hold of the launch register does not matter.
-pub fn holds() {
+pub fn holds(rt: &impl Print) -> io::Result<()> {
     needy_pair(
-        b"least 7, hold 7: ",
+        rt,
+        "least 7, hold 7: ",
         0xA000_0000,
         0xA000_0007,
         0x6000_0007,
         0x8000_000A,
-    );
+    )?;
     needy_pair(
-        b"least 7, hold 8: ",
+        rt,
+        "least 7, hold 8: ",
         0xA000_0000,
         0xA000_0008,
         0x6000_0007,
         0x8000_000A,
-    );
+    )?;
     needy_pair(
-        b"least 7, launch hold 8: ",
+        rt,
+        "least 7, launch hold 8: ",
         0xA000_0008,
         0xA000_0000,
         0x6000_0007,
         0x8000_000A,
-    );
+    )?;
     needy_pair(
-        b"least 7, setup 8: ",
+        rt,
+        "least 7, setup 8: ",
         0xA000_0000,
         0xA002_0000,
         0x6000_0007,
         0x8000_000A,
-    );
+    )
 }
 
 // Refusals that come before a least delay below its hold.
-pub fn before_holds() {
+pub fn before_holds(rt: &impl Print) -> io::Result<()> {
     needy_pair(
-        b"4/3, hold 8: ",
+        rt,
+        "4/3, hold 8: ",
         0xA000_0000,
         0xA000_0008,
         0x6000_0004,
         0x8000_0003,
-    );
+    )?;
     needy_pair(
-        b"greatest of kind 3, hold 8: ",
+        rt,
+        "greatest of kind 3, hold 8: ",
         0xA000_0000,
         0xA000_0008,
         0x6000_0007,
         0x6000_000A,
-    );
+    )
 }
 
 // Pairs that pass, and pairs that are refused.
-pub fn pairs() {
-    pair(b"delay 1000000: ", 2, 0x4000_0001, 0x6000_0000, 0x800F_4240);
-    pair(b"delay 1000001: ", 2, 0x4000_0001, 0x6000_0000, 0x800F_4241);
-    pair(b"least 1000001: ", 2, 0x4000_0001, 0x600F_4241, 0x800F_4240);
-    pair(b"4/4: ", 2, 0x4000_0001, 0x6000_0004, 0x8000_0004);
-    pair(b"4/3: ", 2, 0x4000_0001, 0x6000_0004, 0x8000_0003);
-    pair(b"capture n - 1: ", 2, 0x4000_0001, 0x6000_0000, 0x8000_0005);
-    pair(b"capture n: ", 2, 0x4000_0002, 0x6000_0000, 0x8000_0005);
-    pair(b"launch n: ", 2, 0x4000_0800, 0x6000_0000, 0x8000_0005);
+pub fn pairs(rt: &impl Print) -> io::Result<()> {
+    pair(
+        rt,
+        "delay 1000000: ",
+        2,
+        0x4000_0001,
+        0x6000_0000,
+        0x800F_4240,
+    )?;
+    pair(
+        rt,
+        "delay 1000001: ",
+        2,
+        0x4000_0001,
+        0x6000_0000,
+        0x800F_4241,
+    )?;
+    pair(
+        rt,
+        "least 1000001: ",
+        2,
+        0x4000_0001,
+        0x600F_4241,
+        0x800F_4240,
+    )?;
+    pair(rt, "4/4: ", 2, 0x4000_0001, 0x6000_0004, 0x8000_0004)?;
+    pair(rt, "4/3: ", 2, 0x4000_0001, 0x6000_0004, 0x8000_0003)?;
+    pair(
+        rt,
+        "capture n - 1: ",
+        2,
+        0x4000_0001,
+        0x6000_0000,
+        0x8000_0005,
+    )?;
+    pair(rt, "capture n: ", 2, 0x4000_0002, 0x6000_0000, 0x8000_0005)?;
+    pair(rt, "launch n: ", 2, 0x4000_0800, 0x6000_0000, 0x8000_0005)
 }
 
 // Words of the wrong kind, and a wrong end.
-pub fn kinds() {
+pub fn kinds(rt: &impl Print) -> io::Result<()> {
     pair(
-        b"pair of kind 3: ",
+        rt,
+        "pair of kind 3: ",
         2,
         0x6000_0001,
         0x6000_0000,
         0x8000_0005,
-    );
+    )?;
     pair(
-        b"pair with a spare bit: ",
+        rt,
+        "pair with a spare bit: ",
         2,
         0x4010_0001,
         0x6000_0000,
         0x8000_0005,
-    );
+    )?;
     pair(
-        b"least of kind 4: ",
+        rt,
+        "least of kind 4: ",
         2,
         0x4000_0001,
         0x8000_0000,
         0x8000_0005,
-    );
+    )?;
     pair(
-        b"greatest of kind 3: ",
+        rt,
+        "greatest of kind 3: ",
         2,
         0x4000_0001,
         0x6000_0000,
         0x6000_0005,
-    );
-    pair(b"least of 2^28: ", 2, 0x4000_0001, 0x7000_0000, 0x8000_0005);
+    )?;
+    pair(
+        rt,
+        "least of 2^28: ",
+        2,
+        0x4000_0001,
+        0x7000_0000,
+        0x8000_0005,
+    )?;
     let kind = [0x2000_3000u32, 0xC000_3000];
-    read(b"end of kind 6: ", &kind);
+    read(rt, "end of kind 6: ", &kind)?;
     let sum = [0x2000_3000u32, 0xE000_3001];
-    read(b"end with a wrong sum: ", &sum);
+    read(rt, "end with a wrong sum: ", &sum)
 }
 
 // Three pairs of two registers, each with delays 7/10, with the right head and end.
-fn three_pairs(label: &[u8], first: u32, second: u32, third: u32) {
+fn three_pairs(
+    rt: &impl Print,
+    label: &str,
+    first: u32,
+    second: u32,
+    third: u32,
+) -> io::Result<()> {
     let mut list = [
         words::head_word(2, 3),
         first,
@@ -299,32 +374,34 @@ fn three_pairs(label: &[u8], first: u32, second: u32, third: u32) {
         0,
     ];
     list[10] = words::word_of(words::KIND_END, words::end_payload(&list, 10));
-    read(label, &list);
+    read(rt, label, &list)
 }
 
 // Pairs that rise by launch, then capture, and pairs that do not: the same as the one before, below it by launch, below it by capture.
-pub fn orders() {
-    three_pairs(b"0-0, 0-1, 1-0: ", 0x4000_0000, 0x4000_0001, 0x4000_0400);
-    three_pairs(b"0-0, 0-1, 0-1: ", 0x4000_0000, 0x4000_0001, 0x4000_0001);
-    three_pairs(b"0-0, 1-0, 0-1: ", 0x4000_0000, 0x4000_0400, 0x4000_0001);
-    three_pairs(b"0-1, 0-0, 1-0: ", 0x4000_0001, 0x4000_0000, 0x4000_0400);
+pub fn orders(rt: &impl Print) -> io::Result<()> {
+    three_pairs(rt, "0-0, 0-1, 1-0: ", 0x4000_0000, 0x4000_0001, 0x4000_0400)?;
+    three_pairs(rt, "0-0, 0-1, 0-1: ", 0x4000_0000, 0x4000_0001, 0x4000_0001)?;
+    three_pairs(rt, "0-0, 1-0, 0-1: ", 0x4000_0000, 0x4000_0400, 0x4000_0001)?;
+    three_pairs(rt, "0-1, 0-0, 1-0: ", 0x4000_0001, 0x4000_0000, 0x4000_0400)?;
     three_pairs(
-        b"0-1, 0-0, 2-0 of two: ",
+        rt,
+        "0-1, 0-0, 2-0 of two: ",
         0x4000_0001,
         0x4000_0000,
         0x4000_0800,
-    );
+    )?;
     three_pairs(
-        b"0-1, 1-0, 1-2 of two: ",
+        rt,
+        "0-1, 1-0, 1-2 of two: ",
         0x4000_0001,
         0x4000_0400,
         0x4000_0402,
-    );
+    )
 }
 
 // The pair from register 0 to register 1 of two twice over, with the needs of both, the hold of register 1 being 3; the second has
 // these delays, and so much is added to the sum.
-fn twice(label: &[u8], least: u32, greatest: u32, more: u32) {
+fn twice(rt: &impl Print, label: &str, least: u32, greatest: u32, more: u32) -> io::Result<()> {
     let mut list = [
         words::head_word(2, 2),
         0xA000_0000,
@@ -339,102 +416,121 @@ fn twice(label: &[u8], least: u32, greatest: u32, more: u32) {
     ];
     let end = words::word_of(words::KIND_END, words::end_payload(&list, 9));
     list[9] = std::num::wrapping_add_u32(end, more);
-    read(label, &list);
+    read(rt, label, &list)
 }
 
 // A pair that does not rise, after the other checks of a pair, before the sum.
-pub fn around_orders() {
-    twice(b"0-1 twice, 4/3: ", 0x6000_0004, 0x8000_0003, 0);
-    twice(b"0-1 twice, 2/4, hold 3: ", 0x6000_0002, 0x8000_0004, 0);
-    twice(b"0-1 twice, 3/4, hold 3: ", 0x6000_0003, 0x8000_0004, 0);
-    twice(b"the same, a wrong sum: ", 0x6000_0003, 0x8000_0004, 1);
+pub fn around_orders(rt: &impl Print) -> io::Result<()> {
+    twice(rt, "0-1 twice, 4/3: ", 0x6000_0004, 0x8000_0003, 0)?;
+    twice(rt, "0-1 twice, 2/4, hold 3: ", 0x6000_0002, 0x8000_0004, 0)?;
+    twice(rt, "0-1 twice, 3/4, hold 3: ", 0x6000_0003, 0x8000_0004, 0)?;
+    twice(rt, "the same, a wrong sum: ", 0x6000_0003, 0x8000_0004, 1)
 }
 
 // What the writer refuses.
-pub fn refused_writing() {
+pub fn refused_writing(rt: &impl Print) -> io::Result<()> {
     let none = [0u32, 0, 0, 0];
     let five = [0u32, 1, 7, 10, 1];
-    write(b"five numbers: ", 2, &five, &none);
+    write(rt, "five numbers: ", 2, &five, &none)?;
     let one = [0u32, 1, 7, 10];
-    write(b"no registers, written: ", 0, &one, &none);
-    write(b"513 registers, written: ", 513, &one, &none);
+    write(rt, "no registers, written: ", 0, &one, &none)?;
+    write(rt, "513 registers, written: ", 513, &one, &none)?;
     let register = [0u32, 1, 7, 10, 1024, 0, 1, 3];
-    write(b"register 1024 in pair 1: ", 2, &register, &none);
+    write(rt, "register 1024 in pair 1: ", 2, &register, &none)?;
     let delay = [0u32, 1, 7, 10, 1, 0, 1, 1_000_001];
-    write(b"delay 1000001 in pair 1: ", 2, &delay, &none);
+    write(rt, "delay 1000001 in pair 1: ", 2, &delay, &none)?;
     let order = [0u32, 1, 4, 3];
-    write(b"4/3 in pair 0: ", 2, &order, &none);
+    write(rt, "4/3 in pair 0: ", 2, &order, &none)?;
     let four = [0u32, 0, 0, 5, 0, 1, 7, 10, 1, 0, 1, 3, 1, 1, 0, 5];
-    write(b"four pairs in twelve places: ", 2, &four, &none);
+    write(rt, "four pairs in twelve places: ", 2, &four, &none)
 }
 
 // What the writer refuses of the needs.
-pub fn refused_needs() {
+pub fn refused_needs(rt: &impl Print) -> io::Result<()> {
     let one = [0u32, 1, 7, 10];
-    write(b"three needs of two registers: ", 2, &one, &[1u32, 0, 0]);
+    write(rt, "three needs of two registers: ", 2, &one, &[1u32, 0, 0])?;
     write(
-        b"five needs of two registers: ",
+        rt,
+        "five needs of two registers: ",
         2,
         &one,
         &[0u32, 0, 0, 0, 0],
-    );
-    write(b"no registers, three needs: ", 0, &one, &[1u32, 0, 0]);
+    )?;
+    write(rt, "no registers, three needs: ", 0, &one, &[1u32, 0, 0])?;
     write(
-        b"needs 9999, written: ",
+        rt,
+        "needs 9999, written: ",
         2,
         &[0u32, 1, 9_999, 9_999],
         &[0u32, 9_999, 9_999, 9_999],
-    );
+    )?;
     write(
-        b"hold 10000 of register 1: ",
+        rt,
+        "hold 10000 of register 1: ",
         2,
         &one,
         &[0u32, 0, 10_000, 0],
-    );
+    )?;
     write(
-        b"setup 10000 of register 0: ",
+        rt,
+        "setup 10000 of register 0: ",
         2,
         &[0u32, 2, 7, 10],
         &[0u32, 10_000, 10_000, 0],
-    );
+    )
 }
 
 // Least delays and holds, and room for needs.
-pub fn refused_holds() {
+pub fn refused_holds(rt: &impl Print) -> io::Result<()> {
     let one = [0u32, 1, 7, 10];
-    write(b"hold 7 and least 7: ", 2, &one, &[0u32, 0, 7, 0]);
+    write(rt, "hold 7 and least 7: ", 2, &one, &[0u32, 0, 7, 0])?;
     write(
-        b"hold 8 and least 7 in pair 1: ",
+        rt,
+        "hold 8 and least 7 in pair 1: ",
         2,
         &[0u32, 0, 1, 3, 0, 1, 7, 10],
         &[0u32, 0, 8, 0],
-    );
-    write(b"4/3 and hold 8: ", 2, &[0u32, 1, 4, 3], &[0u32, 0, 8, 0]);
-    let three = [0u32, 0, 0, 5, 0, 1, 7, 10, 1, 0, 1, 3];
-    write(b"three pairs and no needs: ", 2, &three, &[0u32, 0, 0, 0]);
+    )?;
     write(
-        b"three pairs and needs in twelve places: ",
+        rt,
+        "4/3 and hold 8: ",
+        2,
+        &[0u32, 1, 4, 3],
+        &[0u32, 0, 8, 0],
+    )?;
+    let three = [0u32, 0, 0, 5, 0, 1, 7, 10, 1, 0, 1, 3];
+    write(
+        rt,
+        "three pairs and no needs: ",
+        2,
+        &three,
+        &[0u32, 0, 0, 0],
+    )?;
+    write(
+        rt,
+        "three pairs and needs in twelve places: ",
         2,
         &three,
         &[0u32, 0, 0, 1],
-    );
+    )
 }
 
 // What the writer refuses of the order: the place is the pair's index.
-pub fn refused_orders() {
+pub fn refused_orders(rt: &impl Print) -> io::Result<()> {
     let none = [0u32, 0, 0, 0];
     let same = [0u32, 0, 0, 5, 0, 1, 7, 10, 0, 1, 2, 4];
-    write(b"0-0, 0-1, 0-1, written: ", 2, &same, &none);
+    write(rt, "0-0, 0-1, 0-1, written: ", 2, &same, &none)?;
     let launch = [1u32, 0, 1, 3, 0, 1, 7, 10];
-    write(b"1-0, 0-1, written: ", 2, &launch, &none);
+    write(rt, "1-0, 0-1, written: ", 2, &launch, &none)?;
     write(
-        b"1-0, 0-1 7/10, hold 8, written: ",
+        rt,
+        "1-0, 0-1 7/10, hold 8, written: ",
         2,
         &launch,
         &[0u32, 0, 8, 0],
-    );
+    )?;
     let capture = [0u32, 1, 7, 10, 0, 0, 0, 5, 2, 0, 0, 5];
-    write(b"0-1, 0-0, 2-0 of two, written: ", 2, &capture, &none);
+    write(rt, "0-1, 0-0, 2-0 of two, written: ", 2, &capture, &none)?;
     let four = [0u32, 0, 0, 5, 0, 1, 7, 10, 1, 0, 1, 3, 1, 0, 1, 3];
-    write(b"0-0, 0-1, 1-0, 1-0 in twelve places: ", 2, &four, &none);
+    write(rt, "0-0, 0-1, 1-0, 1-0 in twelve places: ", 2, &four, &none)
 }

@@ -5,29 +5,36 @@ mod examples;
 mod show;
 mod trips;
 
-fn main() {
-    examples::lists();
-    examples::needy_lists();
-    examples::refused_lists();
-    examples::needs();
-    examples::kinds_of_needs();
-    examples::needs_of_zeros();
-    examples::holds();
-    examples::before_holds();
-    examples::pairs();
-    examples::kinds();
-    examples::orders();
-    examples::around_orders();
-    examples::refused_writing();
-    examples::refused_needs();
-    examples::refused_holds();
-    examples::refused_orders();
-    trips::small(b"random lists: ", 0, 0);
-    trips::small(b"one word changed: ", 1, 0);
-    trips::small(b"two words changed, the sum kept: ", 2, 0);
-    trips::small(b"random lists with needs: ", 0, timing::MAX_NEED);
-    trips::small(b"one word changed: ", 1, timing::MAX_NEED);
-    trips::small(b"two words changed, the sum kept: ", 2, timing::MAX_NEED);
-    trips::largest(b"512 registers, 2048 pairs, words there and back: ", 0);
-    trips::largest(b"the same with needs: ", timing::MAX_NEED);
+use std::io;
+
+fn main(rt: HostRuntime) -> io::Result<()> {
+    examples::lists(&rt)?;
+    examples::needy_lists(&rt)?;
+    examples::refused_lists(&rt)?;
+    examples::needs(&rt)?;
+    examples::kinds_of_needs(&rt)?;
+    examples::needs_of_zeros(&rt)?;
+    examples::holds(&rt)?;
+    examples::before_holds(&rt)?;
+    examples::pairs(&rt)?;
+    examples::kinds(&rt)?;
+    examples::orders(&rt)?;
+    examples::around_orders(&rt)?;
+    examples::refused_writing(&rt)?;
+    examples::refused_needs(&rt)?;
+    examples::refused_holds(&rt)?;
+    examples::refused_orders(&rt)?;
+    trips::small(&rt, "random lists: ", 0, 0)?;
+    trips::small(&rt, "one word changed: ", 1, 0)?;
+    trips::small(&rt, "two words changed, the sum kept: ", 2, 0)?;
+    trips::small(&rt, "random lists with needs: ", 0, timing::MAX_NEED)?;
+    trips::small(&rt, "one word changed: ", 1, timing::MAX_NEED)?;
+    trips::small(
+        &rt,
+        "two words changed, the sum kept: ",
+        2,
+        timing::MAX_NEED,
+    )?;
+    trips::largest(&rt, "512 registers, 2048 pairs, words there and back: ", 0)?;
+    trips::largest(&rt, "the same with needs: ", timing::MAX_NEED)
 }

@@ -1,5 +1,6 @@
 // Write then read, and read then write, on random lists; then lists with damaged words.
 use list_format::{Reading, Writing};
+use std::io;
 use test_kit::places::{dirty, front, kept, rest, same};
 use test_kit::tally::{Tally, Turn};
 use test_kit::{largest, random, show};
@@ -154,16 +155,16 @@ fn lists(kind: u32, most: u32) -> Tally {
 }
 
 // Random lists with needs up to `most`, and how they fared.
-pub fn small(label: &[u8], kind: u32, most: u32) {
+pub fn small(rt: &impl Print, label: &str, kind: u32, most: u32) -> io::Result<()> {
     let t = lists(kind, most);
-    show::text(label);
-    show::count(t.zeros, b" refused, ");
-    show::count(t.ones, b" the same when written again, ");
-    show::count(t.others, b" wrong\n");
+    show::text(rt, label)?;
+    show::count(rt, t.zeros, " refused, ")?;
+    show::count(rt, t.ones, " the same when written again, ")?;
+    show::count(rt, t.others, " wrong\n")
 }
 
 // A list of the largest size with needs up to `most` there and back, and then with one place too few.
-pub fn largest(label: &[u8], most: u32) {
+pub fn largest(rt: &impl Print, label: &str, most: u32) -> io::Result<()> {
     let mut numbers = [0u32; largest::NUMBERS];
     let mut needs = [0u32; largest::NEEDS];
     let mut words = [0u32; largest::WORDS];
@@ -178,31 +179,33 @@ pub fn largest(label: &[u8], most: u32) {
         &mut numbers,
     );
     let count = there_and_back(largest::REGISTERS, &numbers, &needs, &mut words, &mut back);
-    show::text(label);
-    show::number(count as u64);
-    too_short(&numbers, &needs, most);
-    too_short_read(front(&words, count));
+    show::text(rt, label)?;
+    show::number(rt, count as u64)?;
+    too_short(rt, &numbers, &needs, most)?;
+    too_short_read(rt, front(&words, count))
 }
 
 // The writer with one place less than it asks for.
-fn too_short(numbers: &[u32], needs: &[u32], most: u32) {
+fn too_short(rt: &impl Print, numbers: &[u32], needs: &[u32], most: u32) -> io::Result<()> {
     let mut words = [0u32; largest::WORDS - 1];
     let mut plain_words = [0u32; largest::PLAIN_WORDS - 1];
-    show::text(b"; written in one place less: ");
+    show::text(rt, "; written in one place less: ")?;
     if most == 0 {
-        written(numbers, needs, &mut plain_words);
-        return;
+        return written(rt, numbers, needs, &mut plain_words);
     }
-    written(numbers, needs, &mut words);
+    written(rt, numbers, needs, &mut words)
 }
 
-fn written(numbers: &[u32], needs: &[u32], words: &mut [u32]) {
-    crate::show::writing(write_list::write(largest::REGISTERS, numbers, needs, words));
+fn written(rt: &impl Print, numbers: &[u32], needs: &[u32], words: &mut [u32]) -> io::Result<()> {
+    crate::show::writing(
+        rt,
+        write_list::write(largest::REGISTERS, numbers, needs, words),
+    )
 }
 
 // The reader with one place less.
-fn too_short_read(words: &[u32]) {
+fn too_short_read(rt: &impl Print, words: &[u32]) -> io::Result<()> {
     let mut back = [0u32; largest::READ - 1];
-    show::text(b"read in one place less: ");
-    crate::show::reading(read_list::read(words, &mut back));
+    show::text(rt, "read in one place less: ")?;
+    crate::show::reading(rt, read_list::read(words, &mut back))
 }

@@ -1,18 +1,19 @@
 // Plans of the largest size: 512 registers and 2,048 pairs.
 use planner::Planning;
+use std::io;
 use test_kit::lists::{TWICE, needy};
 use test_kit::places::front;
 use test_kit::{largest, random, show};
 
-fn show_plan(r: Planning) {
+fn show_plan(rt: &impl Print, r: Planning) -> io::Result<()> {
     match r {
-        Planning::Refused(code, place) => show::refusal(code, place),
+        Planning::Refused(code, place) => show::refusal(rt, code, place),
         Planning::Planned(common, free, two, offset) => {
-            show::text(b"common ");
-            show::count(common, b" free ");
-            show::count(free, b" two ");
-            show::count(two, b" offset ");
-            show::count(offset, b"\n");
+            show::text(rt, "common ")?;
+            show::count(rt, common, " free ")?;
+            show::count(rt, free, " two ")?;
+            show::count(rt, two, " offset ")?;
+            show::count(rt, offset, "\n")
         }
     }
 }
@@ -34,40 +35,50 @@ fn drawn(seed: u64, most: u32, most_need: u32, words: &mut [u32]) -> usize {
 }
 
 // Its plan.
-fn plan(label: &[u8], seed: u64, most: u32, most_need: u32) {
+fn plan(rt: &impl Print, label: &str, seed: u64, most: u32, most_need: u32) -> io::Result<()> {
     let mut words = [0u32; largest::WORDS];
     let count = drawn(seed, most, most_need, &mut words);
-    show::text(label);
-    planned(front(&words, count));
+    show::text(rt, label)?;
+    planned(rt, front(&words, count))
 }
 
-fn planned(words: &[u32]) {
+fn planned(rt: &impl Print, words: &[u32]) -> io::Result<()> {
     let mut answer = [0u32; largest::ANSWER];
     let mut scratch = [0u32; largest::SCRATCH];
-    show_plan(planner::plan(words, &mut answer, &mut scratch));
+    show_plan(rt, planner::plan(words, &mut answer, &mut scratch))
 }
 
 // With one place of scratch too few.
-fn short(seed: u64) {
+fn short(rt: &impl Print, seed: u64) -> io::Result<()> {
     let mut words = [0u32; largest::WORDS];
     let mut answer = [0u32; largest::ANSWER];
     let mut scratch = [0u32; largest::SCRATCH - 1];
     let count = drawn(seed, 1_000, 1_000, &mut words);
-    show::text(b"one place of scratch less: ");
-    show_plan(planner::plan(front(&words, count), &mut answer, &mut scratch));
+    show::text(rt, "one place of scratch less: ")?;
+    show_plan(
+        rt,
+        planner::plan(front(&words, count), &mut answer, &mut scratch),
+    )
 }
 
-pub fn lists() {
-    plan(b"512 registers, 2048 pairs, delays to 1000: ", 17, 1_000, 0);
-    plan(b"delays to 1000000: ", 19, timing::MAX_DELAY, 0);
-    plan(b"needs to 100, delays to 1100: ", 17, 1_000, 100);
+pub fn lists(rt: &impl Print) -> io::Result<()> {
     plan(
-        b"needs to 9999, delays to 1000000: ",
+        rt,
+        "512 registers, 2048 pairs, delays to 1000: ",
+        17,
+        1_000,
+        0,
+    )?;
+    plan(rt, "delays to 1000000: ", 19, timing::MAX_DELAY, 0)?;
+    plan(rt, "needs to 100, delays to 1100: ", 17, 1_000, 100)?;
+    plan(
+        rt,
+        "needs to 9999, delays to 1000000: ",
         19,
         timing::MAX_DELAY - timing::MAX_NEED,
         timing::MAX_NEED,
-    );
-    short(17);
-    show::text(b"0-1 twice: ");
-    planned(&TWICE);
+    )?;
+    short(rt, 17)?;
+    show::text(rt, "0-1 twice: ")?;
+    planned(rt, &TWICE)
 }

@@ -5,7 +5,9 @@
 mod large;
 mod search;
 
-fn main() {
-    search::lists();
-    large::lists();
+use std::io;
+
+fn main(rt: HostRuntime) -> io::Result<()> {
+    search::lists(&rt)?;
+    large::lists(&rt)
 }

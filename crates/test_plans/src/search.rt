@@ -4,6 +4,7 @@ ghost use Rattle.timing.specs.Limits.{max_pairs, max_registers};
 
 use free_schedule::FreeAnswer;
 use planner::Planning;
+use std::io;
 use test_kit::lists::needy;
 use test_kit::places::{DIRT, cleared, front, kept, rest, same};
 use test_kit::tally::{Tally, Turn};
@@ -196,7 +197,10 @@ fn many(most: u32) -> Tally {
     tally
 }
 
-pub fn lists() {
-    many(0).tell(b"plans of random lists against all splits and offsets in halves: ");
-    many(NEED).tell(b"the same with needs: ");
+pub fn lists(rt: &impl Print) -> io::Result<()> {
+    many(0).tell(
+        rt,
+        "plans of random lists against all splits and offsets in halves: ",
+    )?;
+    many(NEED).tell(rt, "the same with needs: ")
 }

@@ -3,6 +3,7 @@ ghost use Rattle.std.specs.Prelude.{◌<◌, ◌≤◌};
 ghost use Rattle.timing.specs.Limits.{max_registers};
 
 use crate::examples::show_free;
+use std::io;
 use test_kit::places::front;
 use test_kit::{largest, lists, random, show};
 use timing::{MAX_DELAY, MAX_NEED};
@@ -56,22 +57,30 @@ fn pairs(m: usize, against: bool, least: u32, greatest: u32, numbers: &mut [u32]
 }
 
 // The free period of a list of `m` such pairs, and the first, the second and the last timing.
-fn free(label: &[u8], m: usize, against: bool, least: u32, greatest: u32)
+fn free(
+    rt: &impl Print,
+    label: &str,
+    m: usize,
+    against: bool,
+    least: u32,
+    greatest: u32,
+) -> io::Result<()>
     requires { m ≤ max_registers }
 {
-    needy_free(label, m, against, least, greatest, 0, 0);
+    needy_free(rt, label, m, against, least, greatest, 0, 0)
 }
 
 // The same where each register has these needs.
 fn needy_free(
-    label: &[u8],
+    rt: &impl Print,
+    label: &str,
     m: usize,
     against: bool,
     least: u32,
     greatest: u32,
     hold: u32,
     setup: u32,
-)
+) -> io::Result<()>
     requires { m ≤ max_registers }
 {
     let mut numbers = [0u32; NUMBERS];
@@ -86,62 +95,67 @@ fn needy_free(
         &needs,
         &mut words,
     );
-    show::text(label);
-    show_free(free_schedule::free(front(&words, count), &mut answer));
-    show::numbers(&[answer[0], answer[1], answer[RING - 1]], 3);
+    show::text(rt, label)?;
+    show_free(rt, free_schedule::free(front(&words, count), &mut answer))?;
+    show::numbers(rt, &[answer[0], answer[1], answer[RING - 1]], 3)
 }
 
-pub fn chains() {
-    free(b"chain of 512, 9/9: ", CHAIN, false, 9, 9);
-    free(b"the same against the list: ", CHAIN, true, 9, 9);
+pub fn chains(rt: &impl Print) -> io::Result<()> {
+    free(rt, "chain of 512, 9/9: ", CHAIN, false, 9, 9)?;
+    free(rt, "the same against the list: ", CHAIN, true, 9, 9)?;
     free(
-        b"chain of 512, 1000000/1000000: ",
+        rt,
+        "chain of 512, 1000000/1000000: ",
         CHAIN,
         false,
         MAX_DELAY,
         MAX_DELAY,
-    );
+    )
 }
 
-pub fn rings() {
-    free(b"ring of 512, 0/1000000: ", RING, false, 0, MAX_DELAY);
-    free(b"the same against the list: ", RING, true, 0, MAX_DELAY);
+pub fn rings(rt: &impl Print) -> io::Result<()> {
+    free(rt, "ring of 512, 0/1000000: ", RING, false, 0, MAX_DELAY)?;
+    free(rt, "the same against the list: ", RING, true, 0, MAX_DELAY)?;
     free(
-        b"ring of 512, 1000000/1000000: ",
+        rt,
+        "ring of 512, 1000000/1000000: ",
         RING,
         false,
         MAX_DELAY,
         MAX_DELAY,
-    );
+    )
 }
 
 // The longest chain and the longest ring with the largest needs.
-pub fn needy() {
+pub fn needy(rt: &impl Print) -> io::Result<()> {
     needy_free(
-        b"chain of 512, 1000000/1000000, setup 9999: ",
+        rt,
+        "chain of 512, 1000000/1000000, setup 9999: ",
         CHAIN,
         false,
         MAX_DELAY,
         MAX_DELAY,
         0,
         MAX_NEED,
-    );
+    )?;
     needy_free(
-        b"the same against the list, hold 9999 too: ",
+        rt,
+        "the same against the list, hold 9999 too: ",
         CHAIN,
         true,
         MAX_DELAY,
         MAX_DELAY,
         MAX_NEED,
         MAX_NEED,
-    );
+    )?;
     needy_free(
-        b"ring of 512, 9999/1000000, hold and setup 9999: ",
+        rt,
+        "ring of 512, 9999/1000000, hold and setup 9999: ",
         RING,
         false,
         MAX_NEED,
         MAX_DELAY,
         MAX_NEED,
         MAX_NEED,
-    );
+    )
 }

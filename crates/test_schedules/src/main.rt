@@ -7,17 +7,19 @@ mod large;
 mod plain;
 mod search;
 
-fn main() {
-    examples::free_schedules();
-    examples::needy_free_schedules();
-    examples::checks();
-    examples::needy_checks();
-    examples::ties();
-    examples::margins();
-    examples::refusals();
-    search::free_schedules();
-    search::checks();
-    large::chains();
-    large::rings();
-    large::needy();
+use std::io;
+
+fn main(rt: HostRuntime) -> io::Result<()> {
+    examples::free_schedules(&rt)?;
+    examples::needy_free_schedules(&rt)?;
+    examples::checks(&rt)?;
+    examples::needy_checks(&rt)?;
+    examples::ties(&rt)?;
+    examples::margins(&rt)?;
+    examples::refusals(&rt)?;
+    search::free_schedules(&rt)?;
+    search::checks(&rt)?;
+    large::chains(&rt)?;
+    large::rings(&rt)?;
+    large::needy(&rt)
 }

@@ -5,6 +5,7 @@ ghost use Rattle.timing.specs.Limits.{max_pairs};
 use crate::plain;
 use checker::{Checking, Rule, Smallest};
 use free_schedule::FreeAnswer;
+use std::io;
 use test_kit::lists::needy;
 use test_kit::places::front;
 use test_kit::rules::Margin;
@@ -170,25 +171,27 @@ fn lists(most: u32, checking: bool) -> Tally {
     tally
 }
 
-fn tell(label: &[u8], t: Tally) {
-    show::text(label);
-    show::count(t.ones, b" right, ");
-    show::count(t.others, b" wrong, ");
-    show::count(t.zeros, b" without a schedule\n");
+fn tell(rt: &impl Print, label: &str, t: Tally) -> io::Result<()> {
+    show::text(rt, label)?;
+    show::count(rt, t.ones, " right, ")?;
+    show::count(rt, t.others, " wrong, ")?;
+    show::count(rt, t.zeros, " without a schedule\n")
 }
 
-pub fn free_schedules() {
+pub fn free_schedules(rt: &impl Print) -> io::Result<()> {
     tell(
-        b"free schedules of random lists against a search: ",
+        rt,
+        "free schedules of random lists against a search: ",
         lists(0, false),
-    );
-    tell(b"the same with needs: ", lists(NEED, false));
+    )?;
+    tell(rt, "the same with needs: ", lists(NEED, false))
 }
 
-pub fn checks() {
+pub fn checks(rt: &impl Print) -> io::Result<()> {
     tell(
-        b"checks of random lists and their margins against the rules: ",
+        rt,
+        "checks of random lists and their margins against the rules: ",
         lists(0, true),
-    );
-    tell(b"the same with needs: ", lists(NEED, true));
+    )?;
+    tell(rt, "the same with needs: ", lists(NEED, true))
 }

@@ -4,6 +4,7 @@ ghost use Rattle.std.specs.Prelude.{◌+◌, ◌<◌};
 ghost use Rattle.timing.specs.Limits.{max_registers};
 
 use crate::examples::show_split;
+use std::io;
 use test_kit::places::front;
 use test_kit::{largest, lists, random, show};
 
@@ -51,12 +52,12 @@ fn pairs(against: bool, numbers: &mut [u32]) {
 const NEED: u32 = 2;
 
 // The chain at the period and the offset, and the timings of the first, the second and the last register.
-fn chain(label: &[u8], against: bool) {
-    needy_chain(label, against, 0);
+fn chain(rt: &impl Print, label: &str, against: bool) -> io::Result<()> {
+    needy_chain(rt, label, against, 0)
 }
 
 // The same where each register has this need for hold and for setup, which comes on top of the period.
-fn needy_chain(label: &[u8], against: bool, need: u32) {
+fn needy_chain(rt: &impl Print, label: &str, against: bool, need: u32) -> io::Result<()> {
     let mut numbers = [0u32; NUMBERS];
     let mut needs = [0u32; largest::NEEDS];
     let mut words = [0u32; WORDS];
@@ -66,19 +67,22 @@ fn needy_chain(label: &[u8], against: bool, need: u32) {
     lists::alike(need, need, &mut needs);
     let count = lists::needy(largest::REGISTERS, &numbers, &needs, &mut words);
     let period = PERIOD + need % (NEED + 1);
-    show::text(label);
-    show_split(split::split(
-        front(&words, count),
-        period,
-        OFFSET,
-        &mut answer,
-        &mut scratch,
-    ));
-    show::numbers(&[answer[0], answer[1], answer[CHAIN]], 3);
+    show::text(rt, label)?;
+    show_split(
+        rt,
+        split::split(
+            front(&words, count),
+            period,
+            OFFSET,
+            &mut answer,
+            &mut scratch,
+        ),
+    )?;
+    show::numbers(rt, &[answer[0], answer[1], answer[CHAIN]], 3)
 }
 
-pub fn chains() {
-    chain(b"chain of 512: ", false);
-    chain(b"the same against the list: ", true);
-    needy_chain(b"the same with needs: ", true, NEED);
+pub fn chains(rt: &impl Print) -> io::Result<()> {
+    chain(rt, "chain of 512: ", false)?;
+    chain(rt, "the same against the list: ", true)?;
+    needy_chain(rt, "the same with needs: ", true, NEED)
 }

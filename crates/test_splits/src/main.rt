@@ -6,10 +6,12 @@ mod examples;
 mod large;
 mod search;
 
-fn main() {
-    examples::splits();
-    examples::needy_splits();
-    examples::refusals();
-    search::lists();
-    large::chains();
+use std::io;
+
+fn main(rt: HostRuntime) -> io::Result<()> {
+    examples::splits(&rt)?;
+    examples::needy_splits(&rt)?;
+    examples::refusals(&rt)?;
+    search::lists(&rt)?;
+    large::chains(&rt)
 }

@@ -3,6 +3,7 @@ ghost use Rattle.std.specs.Prelude.{◌≤◌};
 ghost use Rattle.timing.specs.Limits.{max_pairs, max_registers};
 
 use split::Splitting;
+use std::io;
 use test_kit::lists::needy;
 use test_kit::places::{DIRT, cleared, front, kept, same};
 use test_kit::tally::{Tally, Turn};
@@ -121,7 +122,10 @@ fn many(most: u32) -> Tally {
     tally
 }
 
-pub fn lists() {
-    many(0).tell(b"random lists at 240 periods and offsets each, against all splits: ");
-    many(NEED).tell(b"the same with needs: ");
+pub fn lists(rt: &impl Print) -> io::Result<()> {
+    many(0).tell(
+        rt,
+        "random lists at 240 periods and offsets each, against all splits: ",
+    )?;
+    many(NEED).tell(rt, "the same with needs: ")
 }

@@ -4,58 +4,57 @@
 
 use arguments::Argument;
 use convert_text::Made;
-use libc::PATH_MAX;
 use list_bytes::MAX_BYTES;
 use scan::TEXT_BYTES;
-use streams::{Got, Source, write_out};
+use std::io::{Read, Write};
+use std::rt::{Env, Files};
+use streams::{Got, PATH_MAX, Source, complain, complain_lines, write_lines, write_out};
 use text_pieces::Said;
 
 // What was said in the first bytes of a buffer: a text, or what is wrong.
-fn say(buffer: &[u8], said: Said, output: i32, errors: i32) {
+fn say<O: Write, E: Write>(buffer: &[u8], said: Said, output: &mut O, errors: &mut E) {
     match said {
         Said::Text(count) => write_out(output, streams::first_of(buffer, count), errors),
-        Said::Trouble(count) => write_out(errors, streams::first_of(buffer, count), errors),
+        Said::Trouble(count) => complain(errors, streams::first_of(buffer, count)),
     }
 }
 
 // What was made in the first bytes of a buffer: the bytes of a list, or what is wrong.
-fn give(buffer: &[u8], made: Made, output: i32, errors: i32) {
+fn give<O: Write, E: Write>(buffer: &[u8], made: Made, output: &mut O, errors: &mut E) {
     match made {
         Made::Bytes(count) => write_out(output, streams::first_of(buffer, count), errors),
-        Made::Fault(count) => write_out(errors, streams::first_of(buffer, count), errors),
+        Made::Fault(count) => complain(errors, streams::first_of(buffer, count)),
     }
 }
 
 // ---- make_list
 
-fn make_usage(to: i32, errors: i32) {
-    write_out(to, b"use: make_list [FILE]\n", errors);
-    write_out(
-        to,
-        b"Makes the bytes of a delay list of the text in FILE, or on standard input: in the first line the count of registers and, if\n",
-        errors,
-    );
-    write_out(
-        to,
-        b"you like, that of pairs; then, if you like, a line for each register: hold setup; then one for each pair: launch capture least\n",
-        errors,
-    );
-    write_out(
-        to,
-        b"greatest. Pairs come in any order; those of the same registers are joined. Commas count as spaces, # begins a comment.\n",
-        errors,
-    );
-}
+const MAKE_USAGE: [&str; 4] = [
+    "use: make_list [FILE]\n",
+    "Makes the bytes of a delay list of the text in FILE, or on standard input: in the first line the count of registers and, if\n",
+    "you like, that of pairs; then, if you like, a line for each register: hold setup; then one for each pair: launch capture least\n",
+    "greatest. Pairs come in any order; those of the same registers are joined. Commas count as spaces, # begins a comment.\n",
+];
 
 // The bytes of the list that a text describes.
-fn make_received(text: &[u8; TEXT_BYTES + 1], got: usize, output: i32, errors: i32) {
+fn make_received<O: Write, E: Write>(
+    text: &[u8; TEXT_BYTES + 1],
+    got: usize,
+    output: &mut O,
+    errors: &mut E,
+) {
     let mut out = [0u8; MAX_BYTES];
     let made = list_text::make(streams::text_received(text, got), &mut out);
     give(&out, made, output, errors);
 }
 
 // From the file with that name, or standard input.
-pub fn make_from(input: i32, name: &[u8], output: i32, errors: i32) {
+pub fn make_from<I: Read, O: Write, E: Write>(
+    input: &mut I,
+    name: &[u8],
+    output: &mut O,
+    errors: &mut E,
+) {
     let mut text = [0u8; TEXT_BYTES + 1];
     match streams::receive(input, name, &mut text, errors) {
         Got::Nothing => {}
@@ -63,14 +62,18 @@ pub fn make_from(input: i32, name: &[u8], output: i32, errors: i32) {
     }
 }
 
-pub fn make_list(output: i32, errors: i32) {
+pub fn make_list<R: Env + Files + Input, O: Write, E: Write>(
+    rt: &R,
+    output: &mut O,
+    errors: &mut E,
+) {
     let mut path = [0u8; PATH_MAX];
-    match streams::input_of(0, &mut path, errors) {
+    match streams::input_of(rt, 0, &mut path, errors) {
         Source::Nothing => {}
-        Source::Help => make_usage(output, errors),
-        Source::Misused => make_usage(errors, errors),
-        Source::Given(input, size) => make_from(
-            input,
+        Source::Help => write_lines(output, &MAKE_USAGE, errors),
+        Source::Misused => complain_lines(errors, &MAKE_USAGE),
+        Source::Given(mut input, size) => make_from(
+            &mut input,
             streams::name_of(&path, size),
             output,
             errors,
@@ -80,28 +83,30 @@ pub fn make_list(output: i32, errors: i32) {
 
 // ---- show_list
 
-fn show_usage(to: i32, errors: i32) {
-    write_out(to, b"use: show_list [FILE]\n", errors);
-    write_out(
-        to,
-        b"Writes the delay list in FILE, or on standard input, as text: the counts of registers and of pairs, then a line for each\n",
-        errors,
-    );
-    write_out(
-        to,
-        b"register if one has needs: hold setup; then one for each pair: launch capture least greatest. make_list reads it back.\n",
-        errors,
-    );
-}
+const SHOW_USAGE: [&str; 3] = [
+    "use: show_list [FILE]\n",
+    "Writes the delay list in FILE, or on standard input, as text: the counts of registers and of pairs, then a line for each\n",
+    "register if one has needs: hold setup; then one for each pair: launch capture least greatest. make_list reads it back.\n",
+];
 
 // The text of a list, from the bytes that were received.
-fn show_received(bytes: &[u8; MAX_BYTES + 1], got: usize, output: i32, errors: i32) {
+fn show_received<O: Write, E: Write>(
+    bytes: &[u8; MAX_BYTES + 1],
+    got: usize,
+    output: &mut O,
+    errors: &mut E,
+) {
     let mut text = [0u8; list_text::TEXT_PLACES];
     let said = list_text::show(streams::list_received(bytes, got), &mut text);
     say(&text, said, output, errors);
 }
 
-pub fn show_from(input: i32, name: &[u8], output: i32, errors: i32) {
+pub fn show_from<I: Read, O: Write, E: Write>(
+    input: &mut I,
+    name: &[u8],
+    output: &mut O,
+    errors: &mut E,
+) {
     let mut bytes = [0u8; MAX_BYTES + 1];
     match streams::receive(input, name, &mut bytes, errors) {
         Got::Nothing => {}
@@ -109,14 +114,18 @@ pub fn show_from(input: i32, name: &[u8], output: i32, errors: i32) {
     }
 }
 
-pub fn show_list(output: i32, errors: i32) {
+pub fn show_list<R: Env + Files + Input, O: Write, E: Write>(
+    rt: &R,
+    output: &mut O,
+    errors: &mut E,
+) {
     let mut path = [0u8; PATH_MAX];
-    match streams::input_of(0, &mut path, errors) {
+    match streams::input_of(rt, 0, &mut path, errors) {
         Source::Nothing => {}
-        Source::Help => show_usage(output, errors),
-        Source::Misused => show_usage(errors, errors),
-        Source::Given(input, size) => show_from(
-            input,
+        Source::Help => write_lines(output, &SHOW_USAGE, errors),
+        Source::Misused => complain_lines(errors, &SHOW_USAGE),
+        Source::Given(mut input, size) => show_from(
+            &mut input,
             streams::name_of(&path, size),
             output,
             errors,
@@ -126,27 +135,29 @@ pub fn show_list(output: i32, errors: i32) {
 
 // ---- convert_list
 
-fn convert_usage(to: i32, errors: i32) {
-    write_out(to, b"use: convert_list [FILE]\n", errors);
-    write_out(
-        to,
-        b"Puts the pairs of the delay list in FILE, or on standard input, in the order that all jobs ask for: by launch, then capture.\n",
-        errors,
-    );
-    write_out(
-        to,
-        b"Those of the same registers are joined, with the smaller least and the larger greatest delay. Writes the bytes of that list.\n",
-        errors,
-    );
-}
+const CONVERT_USAGE: [&str; 3] = [
+    "use: convert_list [FILE]\n",
+    "Puts the pairs of the delay list in FILE, or on standard input, in the order that all jobs ask for: by launch, then capture.\n",
+    "Those of the same registers are joined, with the smaller least and the larger greatest delay. Writes the bytes of that list.\n",
+];
 
-fn convert_received(bytes: &[u8; MAX_BYTES + 1], got: usize, output: i32, errors: i32) {
+fn convert_received<O: Write, E: Write>(
+    bytes: &[u8; MAX_BYTES + 1],
+    got: usize,
+    output: &mut O,
+    errors: &mut E,
+) {
     let mut out = [0u8; MAX_BYTES];
     let made = convert_text::convert_bytes(streams::list_received(bytes, got), &mut out);
     give(&out, made, output, errors);
 }
 
-pub fn convert_from(input: i32, name: &[u8], output: i32, errors: i32) {
+pub fn convert_from<I: Read, O: Write, E: Write>(
+    input: &mut I,
+    name: &[u8],
+    output: &mut O,
+    errors: &mut E,
+) {
     let mut bytes = [0u8; MAX_BYTES + 1];
     match streams::receive(input, name, &mut bytes, errors) {
         Got::Nothing => {}
@@ -154,14 +165,18 @@ pub fn convert_from(input: i32, name: &[u8], output: i32, errors: i32) {
     }
 }
 
-pub fn convert_list(output: i32, errors: i32) {
+pub fn convert_list<R: Env + Files + Input, O: Write, E: Write>(
+    rt: &R,
+    output: &mut O,
+    errors: &mut E,
+) {
     let mut path = [0u8; PATH_MAX];
-    match streams::input_of(0, &mut path, errors) {
+    match streams::input_of(rt, 0, &mut path, errors) {
         Source::Nothing => {}
-        Source::Help => convert_usage(output, errors),
-        Source::Misused => convert_usage(errors, errors),
-        Source::Given(input, size) => convert_from(
-            input,
+        Source::Help => write_lines(output, &CONVERT_USAGE, errors),
+        Source::Misused => complain_lines(errors, &CONVERT_USAGE),
+        Source::Given(mut input, size) => convert_from(
+            &mut input,
             streams::name_of(&path, size),
             output,
             errors,
@@ -171,23 +186,29 @@ pub fn convert_list(output: i32, errors: i32) {
 
 // ---- free_schedule_of
 
-fn free_usage(to: i32, errors: i32) {
-    write_out(to, b"use: free_schedule_of [FILE]\n", errors);
-    write_out(
-        to,
-        b"Prints the common and the free period of the delay list in FILE, or on standard input, then a line for each register with\n",
-        errors,
-    );
-    write_out(to, b"its number and its free timing.\n", errors);
-}
+const FREE_USAGE: [&str; 3] = [
+    "use: free_schedule_of [FILE]\n",
+    "Prints the common and the free period of the delay list in FILE, or on standard input, then a line for each register with\n",
+    "its number and its free timing.\n",
+];
 
-fn free_received(bytes: &[u8; MAX_BYTES + 1], got: usize, output: i32, errors: i32) {
+fn free_received<O: Write, E: Write>(
+    bytes: &[u8; MAX_BYTES + 1],
+    got: usize,
+    output: &mut O,
+    errors: &mut E,
+) {
     let mut text = [0u8; schedule_text::TEXT_PLACES];
     let said = schedule_text::free_text(streams::list_received(bytes, got), &mut text);
     say(&text, said, output, errors);
 }
 
-pub fn free_from(input: i32, name: &[u8], output: i32, errors: i32) {
+pub fn free_from<I: Read, O: Write, E: Write>(
+    input: &mut I,
+    name: &[u8],
+    output: &mut O,
+    errors: &mut E,
+) {
     let mut bytes = [0u8; MAX_BYTES + 1];
     match streams::receive(input, name, &mut bytes, errors) {
         Got::Nothing => {}
@@ -195,14 +216,18 @@ pub fn free_from(input: i32, name: &[u8], output: i32, errors: i32) {
     }
 }
 
-pub fn free_schedule_of(output: i32, errors: i32) {
+pub fn free_schedule_of<R: Env + Files + Input, O: Write, E: Write>(
+    rt: &R,
+    output: &mut O,
+    errors: &mut E,
+) {
     let mut path = [0u8; PATH_MAX];
-    match streams::input_of(0, &mut path, errors) {
+    match streams::input_of(rt, 0, &mut path, errors) {
         Source::Nothing => {}
-        Source::Help => free_usage(output, errors),
-        Source::Misused => free_usage(errors, errors),
-        Source::Given(input, size) => free_from(
-            input,
+        Source::Help => write_lines(output, &FREE_USAGE, errors),
+        Source::Misused => complain_lines(errors, &FREE_USAGE),
+        Source::Given(mut input, size) => free_from(
+            &mut input,
             streams::name_of(&path, size),
             output,
             errors,
@@ -212,27 +237,19 @@ pub fn free_schedule_of(output: i32, errors: i32) {
 
 // ---- split_at
 
-fn split_usage(to: i32, errors: i32) {
-    write_out(to, b"use: split_at PERIOD OFFSET [FILE]\n", errors);
-    write_out(
-        to,
-        b"Prints the first split of the delay list in FILE, or on standard input, that works at the period and the offset, in whole\n",
-        errors,
-    );
-    write_out(
-        to,
-        b"picoseconds: a line for each register with its number and its timing; or that there is none.\n",
-        errors,
-    );
-}
+const SPLIT_USAGE: [&str; 3] = [
+    "use: split_at PERIOD OFFSET [FILE]\n",
+    "Prints the first split of the delay list in FILE, or on standard input, that works at the period and the offset, in whole\n",
+    "picoseconds: a line for each register with its number and its timing; or that there is none.\n",
+];
 
-fn split_received(
+fn split_received<O: Write, E: Write>(
     bytes: &[u8; MAX_BYTES + 1],
     got: usize,
     period: u32,
     offset: u32,
-    output: i32,
-    errors: i32,
+    output: &mut O,
+    errors: &mut E,
 ) {
     let mut text = [0u8; schedule_text::TEXT_PLACES];
     let said = schedule_text::split_text(
@@ -244,7 +261,14 @@ fn split_received(
     say(&text, said, output, errors);
 }
 
-pub fn split_from(input: i32, name: &[u8], period: u32, offset: u32, output: i32, errors: i32) {
+pub fn split_from<I: Read, O: Write, E: Write>(
+    input: &mut I,
+    name: &[u8],
+    period: u32,
+    offset: u32,
+    output: &mut O,
+    errors: &mut E,
+) {
     let mut bytes = [0u8; MAX_BYTES + 1];
     match streams::receive(input, name, &mut bytes, errors) {
         Got::Nothing => {}
@@ -253,24 +277,35 @@ pub fn split_from(input: i32, name: &[u8], period: u32, offset: u32, output: i32
 }
 
 // With the period and the offset as arguments.
-fn split_given(input: i32, name: &[u8], output: i32, errors: i32) {
-    match arguments::number(1) {
-        Argument::Wrong => split_usage(errors, errors),
-        Argument::Number(period) => match arguments::number(2) {
-            Argument::Wrong => split_usage(errors, errors),
+fn split_given<R: Env, I: Read, O: Write, E: Write>(
+    rt: &R,
+    input: &mut I,
+    name: &[u8],
+    output: &mut O,
+    errors: &mut E,
+) {
+    match arguments::number(rt, 1) {
+        Argument::Wrong => complain_lines(errors, &SPLIT_USAGE),
+        Argument::Number(period) => match arguments::number(rt, 2) {
+            Argument::Wrong => complain_lines(errors, &SPLIT_USAGE),
             Argument::Number(offset) => split_from(input, name, period, offset, output, errors),
         },
     }
 }
 
-pub fn split_at(output: i32, errors: i32) {
+pub fn split_at<R: Env + Files + Input, O: Write, E: Write>(
+    rt: &R,
+    output: &mut O,
+    errors: &mut E,
+) {
     let mut path = [0u8; PATH_MAX];
-    match streams::input_of(2, &mut path, errors) {
+    match streams::input_of(rt, 2, &mut path, errors) {
         Source::Nothing => {}
-        Source::Help => split_usage(output, errors),
-        Source::Misused => split_usage(errors, errors),
-        Source::Given(input, size) => split_given(
-            input,
+        Source::Help => write_lines(output, &SPLIT_USAGE, errors),
+        Source::Misused => complain_lines(errors, &SPLIT_USAGE),
+        Source::Given(mut input, size) => split_given(
+            rt,
+            &mut input,
             streams::name_of(&path, size),
             output,
             errors,
@@ -280,27 +315,31 @@ pub fn split_at(output: i32, errors: i32) {
 
 // ---- why_not
 
-fn why_usage(to: i32, errors: i32) {
-    write_out(to, b"use: why_not PERIOD [FILE]\n", errors);
-    write_out(
-        to,
-        b"Prints workable if some split of the delay list in FILE, or on standard input, works at the period, in whole picoseconds, with\n",
-        errors,
-    );
-    write_out(
-        to,
-        b"any offset; else what blocks the period: a register, and step by step the choices that force it from early to late and back.\n",
-        errors,
-    );
-}
+const WHY_USAGE: [&str; 3] = [
+    "use: why_not PERIOD [FILE]\n",
+    "Prints workable if some split of the delay list in FILE, or on standard input, works at the period, in whole picoseconds, with\n",
+    "any offset; else what blocks the period: a register, and step by step the choices that force it from early to late and back.\n",
+];
 
-fn why_received(bytes: &[u8; MAX_BYTES + 1], got: usize, period: u32, output: i32, errors: i32) {
+fn why_received<O: Write, E: Write>(
+    bytes: &[u8; MAX_BYTES + 1],
+    got: usize,
+    period: u32,
+    output: &mut O,
+    errors: &mut E,
+) {
     let mut text = [0u8; why_text::TEXT_PLACES];
     let said = why_text::why_text(streams::list_received(bytes, got), period, &mut text);
     say(&text, said, output, errors);
 }
 
-pub fn why_from(input: i32, name: &[u8], period: u32, output: i32, errors: i32) {
+pub fn why_from<I: Read, O: Write, E: Write>(
+    input: &mut I,
+    name: &[u8],
+    period: u32,
+    output: &mut O,
+    errors: &mut E,
+) {
     let mut bytes = [0u8; MAX_BYTES + 1];
     match streams::receive(input, name, &mut bytes, errors) {
         Got::Nothing => {}
@@ -309,21 +348,28 @@ pub fn why_from(input: i32, name: &[u8], period: u32, output: i32, errors: i32) 
 }
 
 // With the period as an argument.
-fn why_given(input: i32, name: &[u8], output: i32, errors: i32) {
-    match arguments::number(1) {
-        Argument::Wrong => why_usage(errors, errors),
+fn why_given<R: Env, I: Read, O: Write, E: Write>(
+    rt: &R,
+    input: &mut I,
+    name: &[u8],
+    output: &mut O,
+    errors: &mut E,
+) {
+    match arguments::number(rt, 1) {
+        Argument::Wrong => complain_lines(errors, &WHY_USAGE),
         Argument::Number(period) => why_from(input, name, period, output, errors),
     }
 }
 
-pub fn why_not(output: i32, errors: i32) {
+pub fn why_not<R: Env + Files + Input, O: Write, E: Write>(rt: &R, output: &mut O, errors: &mut E) {
     let mut path = [0u8; PATH_MAX];
-    match streams::input_of(1, &mut path, errors) {
+    match streams::input_of(rt, 1, &mut path, errors) {
         Source::Nothing => {}
-        Source::Help => why_usage(output, errors),
-        Source::Misused => why_usage(errors, errors),
-        Source::Given(input, size) => why_given(
-            input,
+        Source::Help => write_lines(output, &WHY_USAGE, errors),
+        Source::Misused => complain_lines(errors, &WHY_USAGE),
+        Source::Given(mut input, size) => why_given(
+            rt,
+            &mut input,
             streams::name_of(&path, size),
             output,
             errors,
@@ -333,28 +379,20 @@ pub fn why_not(output: i32, errors: i32) {
 
 // ---- check_schedule
 
-fn check_usage(to: i32, errors: i32) {
-    write_out(to, b"use: check_schedule PERIOD TIMINGS [FILE]\n", errors);
-    write_out(
-        to,
-        b"Checks the schedule in the file TIMINGS, a timing in picoseconds for each register, at the period against the delay list in\n",
-        errors,
-    );
-    write_out(
-        to,
-        b"FILE, or on standard input. Prints admissible, or the first pair that breaks a rule; then the smallest margin of all.\n",
-        errors,
-    );
-}
+const CHECK_USAGE: [&str; 3] = [
+    "use: check_schedule PERIOD TIMINGS [FILE]\n",
+    "Checks the schedule in the file TIMINGS, a timing in picoseconds for each register, at the period against the delay list in\n",
+    "FILE, or on standard input. Prints admissible, or the first pair that breaks a rule; then the smallest margin of all.\n",
+];
 
-fn check_received(
+fn check_received<O: Write, E: Write>(
     bytes: &[u8; MAX_BYTES + 1],
     got: usize,
     period: u32,
     timings: &[u8; TEXT_BYTES + 1],
     size: usize,
-    output: i32,
-    errors: i32,
+    output: &mut O,
+    errors: &mut E,
 ) {
     let mut text = [0u8; check_text::TEXT_PLACES];
     let said = check_text::check_text(
@@ -367,14 +405,14 @@ fn check_received(
 }
 
 // With the bytes of the list at hand, the timings are read.
-fn check_read(
+fn check_read<T: Read, O: Write, E: Write>(
     bytes: &[u8; MAX_BYTES + 1],
     got: usize,
     period: u32,
-    timings: i32,
+    timings: &mut T,
     name: &[u8],
-    output: i32,
-    errors: i32,
+    output: &mut O,
+    errors: &mut E,
 ) {
     let mut text = [0u8; TEXT_BYTES + 1];
     match streams::receive(timings, name, &mut text, errors) {
@@ -384,14 +422,14 @@ fn check_read(
 }
 
 // The list from `input`, the timings from `timings`, each with the name of its file.
-pub fn check_from(
-    input: i32,
+pub fn check_from<I: Read, T: Read, O: Write, E: Write>(
+    input: &mut I,
     name: &[u8],
     period: u32,
-    timings: i32,
+    timings: &mut T,
     timings_name: &[u8],
-    output: i32,
-    errors: i32,
+    output: &mut O,
+    errors: &mut E,
 ) {
     let mut bytes = [0u8; MAX_BYTES + 1];
     match streams::receive(input, name, &mut bytes, errors) {
@@ -401,39 +439,57 @@ pub fn check_from(
 }
 
 // With the timings in the file that argument 2 names.
-fn check_file(input: i32, name: &[u8], period: u32, output: i32, errors: i32) {
+fn check_file<R: Env + Files + Input, I: Read, O: Write, E: Write>(
+    rt: &R,
+    input: &mut I,
+    name: &[u8],
+    period: u32,
+    output: &mut O,
+    errors: &mut E,
+) {
     let mut path = [0u8; PATH_MAX];
-    match streams::open(2, &mut path, errors) {
-        Source::Given(timings, size) => check_from(
+    match streams::open(rt, 2, &mut path, errors) {
+        Source::Given(mut timings, size) => check_from(
             input,
             name,
             period,
-            timings,
+            &mut timings,
             streams::name_of(&path, size),
             output,
             errors,
         ),
         Source::Nothing => {}
-        _ => check_usage(errors, errors),
+        _ => complain_lines(errors, &CHECK_USAGE),
     }
 }
 
 // With the period as argument 1.
-fn check_given(input: i32, name: &[u8], output: i32, errors: i32) {
-    match arguments::number(1) {
-        Argument::Wrong => check_usage(errors, errors),
-        Argument::Number(period) => check_file(input, name, period, output, errors),
+fn check_given<R: Env + Files + Input, I: Read, O: Write, E: Write>(
+    rt: &R,
+    input: &mut I,
+    name: &[u8],
+    output: &mut O,
+    errors: &mut E,
+) {
+    match arguments::number(rt, 1) {
+        Argument::Wrong => complain_lines(errors, &CHECK_USAGE),
+        Argument::Number(period) => check_file(rt, input, name, period, output, errors),
     }
 }
 
-pub fn check_schedule(output: i32, errors: i32) {
+pub fn check_schedule<R: Env + Files + Input, O: Write, E: Write>(
+    rt: &R,
+    output: &mut O,
+    errors: &mut E,
+) {
     let mut path = [0u8; PATH_MAX];
-    match streams::input_of(2, &mut path, errors) {
+    match streams::input_of(rt, 2, &mut path, errors) {
         Source::Nothing => {}
-        Source::Help => check_usage(output, errors),
-        Source::Misused => check_usage(errors, errors),
-        Source::Given(input, size) => check_given(
-            input,
+        Source::Help => write_lines(output, &CHECK_USAGE, errors),
+        Source::Misused => complain_lines(errors, &CHECK_USAGE),
+        Source::Given(mut input, size) => check_given(
+            rt,
+            &mut input,
             streams::name_of(&path, size),
             output,
             errors,

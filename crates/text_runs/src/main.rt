@@ -7,140 +7,186 @@
 // converted; and a text of the largest size, with commas.
 #![tactic(auto)]
 
-use libc::STDOUT_FILENO;
-use text_programs::{check_from, make_from, split_from};
+use std::fs::File;
+use std::io;
+use std::rt::{Env, Files};
+use text_programs::{
+    check_from, convert_from, free_from, make_from, show_from, split_from, why_from,
+};
 
-fn make(name: &[u8]) {
-    make_from(os::open_read(name), name, STDOUT_FILENO, STDOUT_FILENO);
+fn make<R: Files + Print>(rt: &R, name: &str) -> io::Result<()> {
+    let mut input = File::open(rt, name)?;
+    make_from(
+        &mut input,
+        name.as_bytes(),
+        &mut io::writer(rt),
+        &mut io::writer(rt),
+    );
+    Ok(())
 }
 
-fn show(name: &[u8]) {
-    text_programs::show_from(os::open_read(name), name, STDOUT_FILENO, STDOUT_FILENO);
+fn show<R: Files + Print>(rt: &R, name: &str) -> io::Result<()> {
+    let mut input = File::open(rt, name)?;
+    show_from(
+        &mut input,
+        name.as_bytes(),
+        &mut io::writer(rt),
+        &mut io::writer(rt),
+    );
+    Ok(())
 }
 
-fn convert(name: &[u8]) {
-    text_programs::convert_from(os::open_read(name), name, STDOUT_FILENO, STDOUT_FILENO);
+fn convert<R: Files + Print>(rt: &R, name: &str) -> io::Result<()> {
+    let mut input = File::open(rt, name)?;
+    convert_from(
+        &mut input,
+        name.as_bytes(),
+        &mut io::writer(rt),
+        &mut io::writer(rt),
+    );
+    Ok(())
 }
 
-fn split(period: u32, offset: u32) {
+fn free<R: Files + Print>(rt: &R, name: &str) -> io::Result<()> {
+    let mut input = File::open(rt, name)?;
+    free_from(
+        &mut input,
+        name.as_bytes(),
+        &mut io::writer(rt),
+        &mut io::writer(rt),
+    );
+    Ok(())
+}
+
+// The output is a file that is open for reading.
+fn free_to_no_output<R: Files + Print>(rt: &R) -> io::Result<()> {
+    let mut input = File::open(rt, "list")?;
+    let mut output = File::open(rt, "list")?;
+    free_from(&mut input, b"list", &mut output, &mut io::writer(rt));
+    Ok(())
+}
+
+fn split<R: Files + Print>(rt: &R, period: u32, offset: u32) -> io::Result<()> {
+    let mut input = File::open(rt, "list")?;
     split_from(
-        os::open_read(b"list"),
+        &mut input,
         b"list",
         period,
         offset,
-        STDOUT_FILENO,
-        STDOUT_FILENO,
+        &mut io::writer(rt),
+        &mut io::writer(rt),
     );
+    Ok(())
 }
 
-fn why(list: &[u8], period: u32) {
-    text_programs::why_from(
-        os::open_read(list),
-        list,
+fn why<R: Files + Print>(rt: &R, list: &str, period: u32) -> io::Result<()> {
+    let mut input = File::open(rt, list)?;
+    why_from(
+        &mut input,
+        list.as_bytes(),
         period,
-        STDOUT_FILENO,
-        STDOUT_FILENO,
+        &mut io::writer(rt),
+        &mut io::writer(rt),
     );
+    Ok(())
 }
 
-fn check(list: &[u8], period: u32, name: &[u8]) {
+fn check<R: Files + Print>(rt: &R, list: &str, period: u32, name: &str) -> io::Result<()> {
+    let mut input = File::open(rt, list)?;
+    let mut timings = File::open(rt, name)?;
     check_from(
-        os::open_read(list),
-        list,
+        &mut input,
+        list.as_bytes(),
         period,
-        os::open_read(name),
-        name,
-        STDOUT_FILENO,
-        STDOUT_FILENO,
+        &mut timings,
+        name.as_bytes(),
+        &mut io::writer(rt),
+        &mut io::writer(rt),
     );
+    Ok(())
 }
 
-fn texts() {
-    make(b"empty");
-    make(b"faulty");
-    make(b"words");
-    make(b"three");
-    make(b"cut");
-    make(b"register");
-    make(b"long");
-    make(b".");
+fn texts<R: Files + Print>(rt: &R) -> io::Result<()> {
+    make(rt, "empty")?;
+    make(rt, "faulty")?;
+    make(rt, "words")?;
+    make(rt, "three")?;
+    make(rt, "cut")?;
+    make(rt, "register")?;
+    make(rt, "long")?;
+    make(rt, ".")
 }
 
-fn needs() {
-    make(b"after");
-    make(b"need");
-    make(b"hold");
-    make(b"fewer");
+fn needs<R: Files + Print>(rt: &R) -> io::Result<()> {
+    make(rt, "after")?;
+    make(rt, "need")?;
+    make(rt, "hold")?;
+    make(rt, "fewer")
 }
 
-fn lists() {
-    show(b"list");
-    show(b"needs");
-    show(b"zero");
-    show(b"held");
-    show(b"twice");
-    show(b"refused");
-    show(b"order");
-    convert(b"refused");
-    convert(b"damaged");
-    text_programs::free_from(
-        os::open_read(b"refused"),
-        b"refused",
-        STDOUT_FILENO,
-        STDOUT_FILENO,
-    );
-    text_programs::free_from(
-        os::open_read(b"list"),
-        b"list",
-        os::open_read(b"list"),
-        STDOUT_FILENO,
-    );
-    split(6, 4);
-    split(0, 4);
-    split(7, 1_010_000);
+fn lists<R: Files + Print>(rt: &R) -> io::Result<()> {
+    show(rt, "list")?;
+    show(rt, "needs")?;
+    show(rt, "zero")?;
+    show(rt, "held")?;
+    show(rt, "twice")?;
+    show(rt, "refused")?;
+    show(rt, "order")?;
+    convert(rt, "refused")?;
+    convert(rt, "damaged")?;
+    free(rt, "refused")?;
+    free_to_no_output(rt)?;
+    split(rt, 6, 4)?;
+    split(rt, 0, 4)?;
+    split(rt, 7, 1_010_000)
 }
 
-fn schedules() {
-    check(b"list", 7, b"late");
-    check(b"list", 7, b"wide");
-    check(b"list", 7, b"word");
-    check(b"list", 7, b"few");
-    check(b"list", 7, b"high");
-    check(b"list", 1_010_000, b"wide");
+fn schedules<R: Files + Print>(rt: &R) -> io::Result<()> {
+    check(rt, "list", 7, "late")?;
+    check(rt, "list", 7, "wide")?;
+    check(rt, "list", 7, "word")?;
+    check(rt, "list", 7, "few")?;
+    check(rt, "list", 7, "high")?;
+    check(rt, "list", 1_010_000, "wide")
 }
 
 // Margins of 0, above and below it, with needs, and of a list without pairs.
-fn margins() {
-    check(b"list", 7, b"met");
-    check(b"list", 10, b"met");
-    check(b"list", 5, b"met");
-    check(b"needs", 9, b"met");
-    check(b"pairless", 7, b"met");
+fn margins<R: Files + Print>(rt: &R) -> io::Result<()> {
+    check(rt, "list", 7, "met")?;
+    check(rt, "list", 10, "met")?;
+    check(rt, "list", 5, "met")?;
+    check(rt, "needs", 9, "met")?;
+    check(rt, "pairless", 7, "met")
 }
 
-fn reasons() {
-    why(b"list", 7);
-    why(b"pairless", 1);
-    why(b"blocked", 6);
-    why(b"list", 0);
-    why(b"list", 1_010_000);
-    why(b"refused", 7);
+fn reasons<R: Files + Print>(rt: &R) -> io::Result<()> {
+    why(rt, "list", 7)?;
+    why(rt, "pairless", 1)?;
+    why(rt, "blocked", 6)?;
+    why(rt, "list", 0)?;
+    why(rt, "list", 1_010_000)?;
+    why(rt, "refused", 7)
 }
 
-fn main() {
-    texts();
-    needs();
-    lists();
-    schedules();
-    margins();
-    reasons();
-    text_programs::split_at(STDOUT_FILENO, STDOUT_FILENO);
-    text_programs::why_not(STDOUT_FILENO, STDOUT_FILENO);
-    text_programs::check_schedule(STDOUT_FILENO, STDOUT_FILENO);
-    make(b"plain");
-    make(b"last");
-    make(b"any");
-    convert(b"order");
-    convert(b"list");
-    make(b"largest");
+// Without arguments.
+fn misused<R: Env + Files + Input + Print>(rt: &R) {
+    text_programs::split_at(rt, &mut io::writer(rt), &mut io::writer(rt));
+    text_programs::why_not(rt, &mut io::writer(rt), &mut io::writer(rt));
+    text_programs::check_schedule(rt, &mut io::writer(rt), &mut io::writer(rt));
+}
+
+fn main(rt: HostRuntime) -> io::Result<()> {
+    texts(&rt)?;
+    needs(&rt)?;
+    lists(&rt)?;
+    schedules(&rt)?;
+    margins(&rt)?;
+    reasons(&rt)?;
+    misused(&rt);
+    make(&rt, "plain")?;
+    make(&rt, "last")?;
+    make(&rt, "any")?;
+    convert(&rt, "order")?;
+    convert(&rt, "list")?;
+    make(&rt, "largest")
 }

@@ -2,6 +2,6 @@
 // last, or on standard input.
 #![tactic(auto)]
 
-fn main() {
-    text_programs::why_not(libc::STDOUT_FILENO, libc::STDERR_FILENO);
+fn main(rt: HostRuntime) {
+    text_programs::why_not(&rt, &mut rt.stdout(), &mut rt.stderr());
 }

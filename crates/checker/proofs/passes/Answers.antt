@@ -1,0 +1,9 @@
+-- `passes`: the schedule is admissible exactly where the first broken pair is past the last (`none-test`).
+use Rattle.checker.proofs.CheckLaws.{none-test}
+use borrow.Author.Rules.{rules}
+use Rattle.checker.proofs.passes.Goals as goal
+
+pub returns : goal.returns
+returns c =
+    let a = c.args in
+    rw (c.first_broken.ensures, c.requires.pairs_are) (none-test a.words.now a.period a.timings.now)
