@@ -1,10 +1,7 @@
 -- `put_bytes`: the bytes, one after the other, are one piece.
 -- Invariant `Listing`: the first i bytes are stored. What falls: length bytes - i.
-use Prim.Native.Nat.{◌-◌}
 use native.Mathlib.Omega.{arith}
-use lib.ListN.{length}
-use Rattle.text_pieces.proofs.PutLaws.{Listing, listing_start, listing-room, listing-turn, byte_of, bytes-end, put-size}
-use borrow.Author.Rules.{rules}
+use Rattle.text_pieces.proofs.PutLaws.{listing_start, listing-turn, bytes-end}
 use Rattle.text_pieces.proofs.put_bytes.Goals as goal
 
 pub loop-i-init : goal.loop-i-init

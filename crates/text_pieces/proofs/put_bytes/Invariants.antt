@@ -1,10 +1,8 @@
 -- `put_bytes`: the bytes, one after the other, are one piece.
 -- Invariant `Listing`: the first i bytes are stored. What falls: length bytes - i.
 use Prim.Native.Nat.{◌-◌}
-use native.Mathlib.Omega.{arith}
 use lib.ListN.{length}
-use Rattle.text_pieces.proofs.PutLaws.{Listing, listing_start, listing-room, listing-turn, byte_of, bytes-end, put-size}
-use borrow.Author.Rules.{rules}
+use Rattle.text_pieces.proofs.PutLaws.{Listing, byte_of}
 use Rattle.text_pieces.proofs.put_bytes.Given as goal
 
 abbrev pub invariant-loop-i : goal.invariant-loop-i

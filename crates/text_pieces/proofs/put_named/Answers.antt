@@ -1,6 +1,5 @@
 -- `put_named`: a name, and after it its number.
 use Rattle.text_pieces.proofs.PutLaws.{put_then}
-use borrow.Author.Rules.{rules}
 use Rattle.text_pieces.proofs.put_named.Goals as goal
 
 pub returns : goal.returns

@@ -2,7 +2,6 @@
 use mir.Syntax.{w64}
 use mir.ValLaws.{to_z-of_z}
 use Rattle.text_pieces.proofs.DecimalLaws.{put_up, put-down}
-use borrow.Author.Rules.{rules}
 use Rattle.text_pieces.proofs.put_signed.Goals as goal
 
 pub returns-then-z-ge0 : goal.returns-then-z-ge0
