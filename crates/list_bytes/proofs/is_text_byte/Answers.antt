@@ -1,6 +1,5 @@
 -- `is_text_byte`: below the digits, above them, a digit.
 use borrow.Author.Tests.{lt-ltb, le-ltb}
-use borrow.Author.Rules.{rules}
 use Rattle.list_bytes.specs.ListBytes.{text_byte}
 use Rattle.list_bytes.proofs.is_text_byte.Goals as goal
 

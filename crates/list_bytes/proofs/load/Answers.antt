@@ -1,6 +1,5 @@
 -- `load`: too many bytes or not four to a word make no words; else the words of the bytes are stored. One law for each.
 use Rattle.list_bytes.proofs.LoadLaws.{list-long, list-odd, load-none, load-done}
-use borrow.Author.Rules.{rules}
 use Rattle.list_bytes.proofs.load.Goals as goal
 
 pub returns-then-size-gt-MAX_BYTES : goal.returns-then-size-gt-MAX_BYTES
@@ -11,5 +10,4 @@ returns-then-size-ne0 c = load-none _ _ (list-odd _ c.if-size-gt-MAX_BYTES.false
 
 pub returns : goal.returns
 returns c =
-    let made = c.to_words in
-    load-done _ _ made.new.1.1.0 c.if-size-gt-MAX_BYTES.false c.if-size-ne0.false made.ensures
+    load-done _ _ c.to_words.new.words c.if-size-gt-MAX_BYTES.false c.if-size-ne0.false c.to_words.ensures
