@@ -17,7 +17,10 @@ returns-then-smallest-ge0 c =
 pub broken_rule-rule-requires : goal.broken_rule-rule-requires
 broken_rule-rule-requires c =
     let x = as_read c.walked-walk.result.smallest.margin c.struct_told-1.given.0.1 in
-    (broken-in c.args.period c.args.timings.now c.requires c.walked-walk.ensures (omega arith) (rw x at c.if-smallest-ge0.false), c.requires.registers_are)
+    record {
+      pair_in = broken-in c.args.period c.args.timings.now c.requires c.walked-walk.ensures (omega arith) (rw x at c.if-smallest-ge0.false);
+      timings_len = c.requires.registers_are;
+    }
 
 pub returns : goal.returns
 returns c =

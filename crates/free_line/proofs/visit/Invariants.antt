@@ -1,0 +1,16 @@
+-- `visit`: no register is raised past times that meet the rules.
+-- Invariant `Risen`: so it is from the times at the start to those now. What falls: the end at hand.
+use Rattle.timing.specs.Limits.{max_timing}
+use Rattle.list_format.specs.Lists.{pairs}
+use Rattle.free_laws.specs.Constraint.{constraints}
+use Rattle.free_laws.specs.Raise.{Risen}
+use Rattle.free_rounds.proofs.RoundLaws.{risen-start, risen-then, raising-kept}
+use borrow.Author.Rules.{rules}
+use Rattle.free_line.proofs.visit.Given as goal
+
+abbrev pub invariant-loop-end : goal.invariant-loop-end
+invariant-loop-end l =
+    Risen max_timing (constraints l.period (pairs l.words)) l.initial.x l.x
+
+abbrev pub decreases-loop-end : goal.decreases-loop-end
+decreases-loop-end l = l.end
