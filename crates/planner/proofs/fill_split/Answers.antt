@@ -1,6 +1,5 @@
 -- `fill_split`: the reaches, in the places lent, give the two-timing period, and its split is read from them (`two_in`).
 use Rattle.planner.proofs.PlanCallLaws.{free-pos, free_bound, two_fits, two_in}
-use borrow.Author.Rules.{rules}
 use Rattle.planner.proofs.fill_split.Goals as goal
 
 pub overflow_sub-free : goal.overflow_sub-free

@@ -1,7 +1,6 @@
 -- `plan`: the list is refused, or the call, or the plan is made (`show`). One law for each way to end.
 use mathlib.Core.Path.{sym, ◌∙◌}
 use Rattle.planner.proofs.PlanCallLaws.{list-refused, call-refused, call-allowed}
-use borrow.Author.Rules.{rules}
 use Rattle.planner.proofs.plan.Goals as goal
 
 pub show-requires : goal.show-requires

@@ -1,7 +1,5 @@
 -- `plan_by`: the free timings, and behind them the split's timings, in the places lent for them (`plan-in`).
-use Rattle.list_format.proofs.ListLaws.{still-usable}
-use Rattle.planner.proofs.PlanCallLaws.{lent-size, plan-in, two_fits}
-use borrow.Author.Rules.{rules}
+use Rattle.planner.proofs.PlanCallLaws.{plan-in, two_fits}
 use Rattle.planner.proofs.plan_by.Goals as goal
 
 pub overflow_sub-offset : goal.overflow_sub-offset

@@ -1,7 +1,6 @@
 -- `plan_counted`: by the list itself, or by its copy with the needs counted in, whose plan is the same (`counted-plan`).
 use mathlib.Core.Path.{refl}
 use Rattle.planner.proofs.PlanCallLaws.{counted-room, counted-plan, counted-rest}
-use borrow.Author.Rules.{rules}
 use Rattle.planner.proofs.plan_counted.Goals as goal
 
 pub plan_by-requires-2 : goal.plan_by-requires-2

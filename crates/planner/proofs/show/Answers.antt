@@ -1,6 +1,5 @@
 -- `show`: the plan, with the scratch left zero, is the whole promise (`planned`).
 use Rattle.planner.proofs.PlanCallLaws.{left-zero, planned}
-use borrow.Author.Rules.{rules}
 use Rattle.planner.proofs.show.Goals as goal
 
 pub returns : goal.returns
