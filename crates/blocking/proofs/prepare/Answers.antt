@@ -1,0 +1,8 @@
+-- `prepare`: blank marks and the broken choices, then the forest (`made-ready`).
+use Rattle.blocking.proofs.WhyLaws.{prepared-blank, made-ready}
+use borrow.Author.Rules.{rules}
+use Rattle.blocking.proofs.prepare.Goals as goal
+
+pub returns : goal.returns
+returns c =
+    made-ready (rw (c.less-offset.ensures, c.common-common.ensures) at c.prepare.ensures) c.force_late.ensures
