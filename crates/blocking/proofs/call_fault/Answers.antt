@@ -1,6 +1,5 @@
 -- `call_fault`: refusals 3, 2 and 1 in order, one check of `why_call_checks` for each `or`.
 use Rattle.refusals.specs.Checks.{or_check, fault_after}
-use borrow.Author.Rules.{rules}
 use Rattle.blocking.proofs.call_fault.Goals as goal
 
 pub returns : goal.returns

@@ -1,6 +1,5 @@
 -- `prepare`: blank marks and the broken choices, then the forest (`made-ready`).
-use Rattle.blocking.proofs.WhyLaws.{prepared-blank, made-ready}
-use borrow.Author.Rules.{rules}
+use Rattle.blocking.proofs.WhyLaws.{made-ready}
 use Rattle.blocking.proofs.prepare.Goals as goal
 
 pub returns : goal.returns

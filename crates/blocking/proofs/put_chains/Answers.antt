@@ -1,10 +1,6 @@
 -- `put_chains`: the path to the root, then both chains (`chains-in`).
 use mathlib.Core.Path.{refl}
-use Prim.Native.Nat.{◌+◌, ◌≤◌}
-use Rattle.timing.specs.Limits.{max_registers}
-use Rattle.forced_late.specs.Forest.{depth_of}
-use Rattle.blocking.proofs.ChainsLaws.{launch-late}
-use Rattle.blocking.proofs.PutLaws.{launch-few, root-few, root-reads, first-asks, step_small, first_short, second-asks, chains-in}
+use Rattle.blocking.proofs.PutLaws.{root-few, root-reads, first-asks, first_short, second-asks, chains-in}
 use borrow.Author.Rules.{rules}
 use Rattle.blocking.proofs.put_chains.Goals as goal
 

@@ -1,13 +1,8 @@
 -- `put_path`: a path, up or down. Invariant `Filling`. What falls: count - i.
-use mathlib.Core.List.{[], ◌∷◌}
 use mathlib.Core.Path.{ap}
-use Prim.Native.Nat.{ℕ, ◌+◌, ◌-◌, ◌*◌}
-use native.Mathlib.Omega.{arith}
-use lib.ListN.{get_or, take}
-use Rattle.buffers.proofs.FillLaws.{Filling, filling-size, filling-end}
-use Rattle.list_format.specs.Lists.{place_of}
-use Rattle.blocking.proofs.StoreLaws.{part-start, part-inside, part-turn}
-use borrow.Author.Rules.{rules}
+use Prim.Native.Nat.{ℕ, ◌+◌, ◌*◌}
+use lib.ListN.{get_or}
+use Rattle.blocking.proofs.StoreLaws.{part-start, part-turn}
 use Rattle.blocking.proofs.put_path.Goals as goal
 
 pub loop-i-init : goal.loop-i-init

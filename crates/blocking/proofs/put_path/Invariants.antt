@@ -1,13 +1,9 @@
 -- `put_path`: a path, up or down. Invariant `Filling`. What falls: count - i.
 use mathlib.Core.List.{[], ◌∷◌}
-use mathlib.Core.Path.{ap}
-use Prim.Native.Nat.{ℕ, ◌+◌, ◌-◌, ◌*◌}
-use native.Mathlib.Omega.{arith}
+use Prim.Native.Nat.{◌+◌, ◌-◌, ◌*◌}
 use lib.ListN.{get_or, take}
-use Rattle.buffers.proofs.FillLaws.{Filling, filling-size, filling-end}
+use Rattle.buffers.proofs.FillLaws.{Filling}
 use Rattle.list_format.specs.Lists.{place_of}
-use Rattle.blocking.proofs.StoreLaws.{part-start, part-inside, part-turn}
-use borrow.Author.Rules.{rules}
 use Rattle.blocking.proofs.put_path.Given as goal
 
 abbrev pub invariant-loop-i : goal.invariant-loop-i

@@ -1,6 +1,5 @@
 -- `show`: the forest, then a pair that clashes or none. One law for each answer.
-use Rattle.blocking.proofs.WhyLaws.{clash-none, clash-there, workable-shown, clashing, blocked-shown}
-use borrow.Author.Rules.{rules}
+use Rattle.blocking.proofs.WhyLaws.{clash-none, clash-there, workable-shown, blocked-shown}
 use Rattle.blocking.proofs.show.Goals as goal
 
 pub returns-then-k-m : goal.returns-then-k-m

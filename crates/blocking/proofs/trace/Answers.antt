@@ -1,12 +1,7 @@
 -- `trace`: the steps from register r up to its root. Invariant `Tracing`. What falls: height - i.
 use mathlib.Core.Path.{refl}
-use Prim.Native.Nat.{◌-◌}
-use native.Mathlib.Omega.{arith}
-use Rattle.buffers.proofs.FillLaws.{filling-size}
-use Rattle.forced_late.proofs.GrowLaws.{depth-few}
-use Rattle.blocking.specs.Paths.{Late}
-use Rattle.blocking.proofs.StoreLaws.{Tracing, tracing-start, tracing-few, tracing-reads, tracing-writes}
-use Rattle.blocking.proofs.StoreLaws.{tracing-pair, tracing-small, tracing-turn, tracing-end}
+use Rattle.blocking.proofs.StoreLaws.{tracing-start, tracing-few, tracing-reads, tracing-writes}
+use Rattle.blocking.proofs.StoreLaws.{tracing-pair, tracing-turn}
 use borrow.Author.Rules.{rules}
 use Rattle.blocking.proofs.trace.Goals as goal
 

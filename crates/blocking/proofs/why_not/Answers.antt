@@ -1,7 +1,6 @@
 -- `why_not`: the list is refused, or the call, or the forest decides (`show`). One law for each way to end.
 use mathlib.Core.Path.{sym, ◌∙◌}
 use Rattle.blocking.proofs.WhyLaws.{list-refused, call-refused, call-allowed}
-use borrow.Author.Rules.{rules}
 use Rattle.blocking.proofs.why_not.Goals as goal
 
 pub show-requires : goal.show-requires
