@@ -30,6 +30,7 @@ pub fn load(bytes: &[u8], words: &mut [u32; MAX_WORDS]) -> usize
 }
 
 // Whether it is a tab, a newline, a carriage return, a space, a comma or the sign of a comment.
+#[tactic(auto, unfolding(crate::specs::ListBytes::blank_byte))]
 fn is_blank(byte: u8) -> bool
     ensures { result ≡ blank_byte byte }
 {

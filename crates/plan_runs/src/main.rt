@@ -11,6 +11,7 @@ use std::io::{Error, Read};
 use std::rt::Files;
 
 // Input that is not open: each read fails as it does at a descriptor that is none.
+#[derive(Drop)]
 struct NotOpen;
 
 // The system's number of that error.

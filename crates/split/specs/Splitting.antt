@@ -1,5 +1,5 @@
 -- Whether some split works at a period and an offset, and the first one: what a call comes to.
-use Rattle.std.specs.Prelude.{ℕ, ◌+◌, ◌≤◌, Bool, true, false, ◌⊎◌, List, [], ◌∷◌, ◌++◌, ◌≡◌, ltb, eqb, length, take}
+use Rattle.std.specs.Prelude.{ℕ, ◌≤◌, Bool, true, false, ◌⊎◌, List, [], ◌∷◌, ◌++◌, ◌≡◌, ltb, eqb, length, take}
 use Rattle.timing.specs.Rules.{Each, admissible}
 use Rattle.timing.specs.Limits.{max_period, max_offset, scratch_places}
 use Rattle.refusals.specs.Checks.{Check, first_fault}

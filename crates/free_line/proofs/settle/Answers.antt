@@ -13,11 +13,14 @@ use Rattle.free_line.proofs.settle.Goals as goal
 
 pub returns-then-over : goal.returns-then-over
 returns-then-over c =
-    (risen-then c.loop-left.invariant c.stretch-w.ensures, bound-low (omega arith))
+    record { risen = risen-then c.loop-left.invariant c.stretch-w.ensures; bound = bound-low (omega arith) }
 
 pub returns-then-period-longer : goal.returns-then-period-longer
 returns-then-period-longer c =
-    (risen-then (risen-then c.loop-left.invariant c.stretch-w.ensures) c.carry-longer.ensures.risen, c.carry-longer.ensures.bound)
+    record {
+      risen = risen-then (risen-then c.loop-left.invariant c.stretch-w.ensures) c.carry-longer.ensures.risen;
+      bound = c.carry-longer.ensures.bound;
+    }
 
 pub loop-left-preserved : goal.loop-left-preserved
 loop-left-preserved c =

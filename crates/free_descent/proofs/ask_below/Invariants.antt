@@ -1,0 +1,14 @@
+-- `ask_below`: safe, and it ends.
+-- Invariant: left ≤ length x. What falls: the registers left.
+use Prim.Native.Nat.{◌≤◌}
+use native.Mathlib.Omega.{arith}
+use lib.ListN.{length}
+use borrow.Author.Rules.{rules}
+use Rattle.free_descent.proofs.ask_below.Given as goal
+
+abbrev pub invariant-loop-left : goal.invariant-loop-left
+invariant-loop-left l =
+    l.left ≤ length l.x
+
+abbrev pub decreases-loop-left : goal.decreases-loop-left
+decreases-loop-left l = l.left

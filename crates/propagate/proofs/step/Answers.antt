@@ -1,0 +1,14 @@
+-- `step`: what pair k forces is followed in the marks lent, by its flags; where nothing changes it forces no more (`pair-pass`).
+use mathlib.Core.Path.{refl}
+use native.Mathlib.Omega.{arith}
+use Rattle.propagate.proofs.PassLaws.{pair-pass}
+use Rattle.propagate.proofs.step.Goals as goal
+
+pub returns : goal.returns
+returns c =
+    let a = c.args in
+    pair-pass a.words.now a.n a.scratch.now a.k (omega (arith, c.requires.0.room)) (omega (arith, c.requires.0.list.pairs_are))
+    c.pair_at-pair.ensures.same
+    c.flags_at-flags.ensures
+    refl
+    c.settle.ensures
