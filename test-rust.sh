@@ -3,8 +3,8 @@
 set -eu
 cd "$(dirname "$0")"
 archive=target/staticlib/libplanner_c.a
-if [ ! -f "$archive" ] || [ -n "$(find crates crates.txt -type f -newer "$archive" -print -quit)" ]; then
-    rt staticlib planner_c
+if [ ! -f "$archive" ] || [ -n "$(find crates crates.txt -type f -not -path '*/out/*' -newer "$archive" -print -quit)" ]; then
+    bash build.sh planner_c
 fi
 cargo test --release --offline --manifest-path rust/Cargo.toml -- --nocapture
 

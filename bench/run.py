@@ -33,7 +33,7 @@ def shell(*command):
 
 def build():
     WORK.mkdir(parents=True, exist_ok=True)
-    shell('rt', 'staticlib', 'planner_c')
+    shell('bash', 'build.sh', 'planner_c')
     shell('g++', '-O3', '-Wall', '-Wextra', '-c', 'bench/plain.cpp', '-o', 'target/bench/plain.o')
     shell('gcc', '-O3', '-Wall', '-Wextra', '-Ic', 'bench/measure.c', 'target/bench/plain.o',
           'target/staticlib/libplanner_c.a', '-lcadical', '-lstdc++', '-lm', '-o', 'target/bench/measure')

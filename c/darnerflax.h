@@ -1,4 +1,4 @@
-/* The clock planner for C. Link with target/staticlib/libplanner_c.a (rt staticlib planner_c).
+/* The clock planner for C. Link with target/staticlib/libplanner_c.a (bash build.sh planner_c).
  *
  * A delay list is a run of 32-bit words. Every function takes any words and any lengths, and returns a status:
  * 0 for a result, else the number of a refusal. A refusal changes no buffer except `reply`.

@@ -7,7 +7,7 @@ fn main() {
     let archive = folder.join("libplanner_c.a");
     println!("cargo:rerun-if-changed={}", archive.display());
     if !archive.is_file() {
-        eprintln!("{} is missing: run `rt staticlib planner_c` in the repository's root", archive.display());
+        eprintln!("{} is missing: run `bash build.sh planner_c` in the repository's root", archive.display());
         std::process::exit(1);
     }
     println!("cargo:rustc-link-search=native={}", folder.display());

@@ -180,7 +180,7 @@ read_answer = answer_by NotRead (λ xs. Read (get_or xs 0 0) (get_or xs 1 0))
 pub read-telling : {ws was now : List ℕ} → Telling read_reply read_answer (ReadAs ws was now)
 unfolding read_reply read_answer answer_by
 read-telling {ws} {was} =
-    telling (λ a p. elim a [ Read n m ↦ refl | NotRead number place ↦ refl ]) (read_told ws (length was)) (λ a p. p.reply)
+    telling (λ a p. elim a as (λ k. read_answer (read_reply k) ≡ k) [ Read n m ↦ refl | NotRead number place ↦ refl ]) (read_told ws (length was)) (λ a p. p.reply)
 
 unfoldable pub write_answer : Reply → Writing
 write_answer = answer_by NotWritten (λ xs. Written (get_or xs 0 0))
@@ -188,7 +188,7 @@ write_answer = answer_by NotWritten (λ xs. Written (get_or xs 0 0))
 pub write-telling : {n : ℕ} {xs ys was now : List ℕ} → Telling write_reply write_answer (WrittenAs n xs ys was now)
 unfolding write_reply write_answer answer_by
 write-telling {n} {xs} {ys} {was} =
-    telling (λ a p. elim a [ Written count ↦ refl | NotWritten number place ↦ refl ]) (write-told n xs ys (length was)) (λ a p. p.reply)
+    telling (λ a p. elim a as (λ k. write_answer (write_reply k) ≡ k) [ Written count ↦ refl | NotWritten number place ↦ refl ]) (write-told n xs ys (length was)) (λ a p. p.reply)
 
 unfoldable pub convert_answer : Reply → Converting
 convert_answer = answer_by NotConverted (λ xs. Converted (get_or xs 0 0))
@@ -196,7 +196,7 @@ convert_answer = answer_by NotConverted (λ xs. Converted (get_or xs 0 0))
 pub convert-telling : {ws was now : List ℕ} → Telling convert_reply convert_answer (ConvertedAs ws was now)
 unfolding convert_reply convert_answer answer_by
 convert-telling {ws} {was} =
-    telling (λ a p. elim a [ Converted count ↦ refl | NotConverted number place ↦ refl ]) (convert-told ws (length was)) (λ a p. p.reply)
+    telling (λ a p. elim a as (λ k. convert_answer (convert_reply k) ≡ k) [ Converted count ↦ refl | NotConverted number place ↦ refl ]) (convert-told ws (length was)) (λ a p. p.reply)
 
 unfoldable pub rule_of : ℕ → Rule
 rule_of n = cond (eqb n 0) Setup Hold
@@ -236,7 +236,7 @@ free_answer = answer_by NotFreed (λ xs. Periods (get_or xs 0 0) (get_or xs 1 0)
 pub free-telling : {ws was now : List ℕ} → Telling free_reply free_answer (FreeAs ws was now)
 unfolding free_reply free_answer answer_by
 free-telling {ws} {was} =
-    telling (λ a p. elim a [ Periods common free ↦ refl | NotFreed number place ↦ refl ]) (free-told ws (length was)) (λ a p. p.reply)
+    telling (λ a p. elim a as (λ k. free_answer (free_reply k) ≡ k) [ Periods common free ↦ refl | NotFreed number place ↦ refl ]) (free-told ws (length was)) (λ a p. p.reply)
 
 unfoldable pub split_answer : Reply → Splitting
 split_answer = answer_by NotSplit (λ xs. cond (eqb (get_or xs 0 0) 0) NoSplit Split)
@@ -245,7 +245,7 @@ pub split-telling : {ws : List ℕ} {period offset : ℕ} {answer answer' scratc
     → Telling split_reply split_answer (SplitAs ws period offset answer answer' scratch scratch')
 unfolding split_reply split_answer answer_by
 split-telling {ws} {period} {offset} {answer} {scratch = scratch} =
-    telling (λ a p. elim a [ Split ↦ refl | NoSplit ↦ refl | NotSplit number place ↦ refl ])
+    telling (λ a p. elim a as (λ k. split_answer (split_reply k) ≡ k) [ Split ↦ refl | NoSplit ↦ refl | NotSplit number place ↦ refl ])
     (split-told ws period offset (length answer) (length scratch)) (λ a p. p.reply)
 
 unfoldable pub plan_answer : Reply → Planning
@@ -254,7 +254,7 @@ plan_answer = answer_by NotPlanned (λ xs. Planned (get_or xs 0 0) (get_or xs 1 
 pub plan-telling : {ws answer answer' scratch scratch' : List ℕ} → Telling plan_reply plan_answer (PlanAs ws answer answer' scratch scratch')
 unfolding plan_reply plan_answer answer_by
 plan-telling {ws} {answer} {scratch = scratch} =
-    telling (λ a p. elim a [ Planned common free two offset ↦ refl | NotPlanned number place ↦ refl ])
+    telling (λ a p. elim a as (λ k. plan_answer (plan_reply k) ≡ k) [ Planned common free two offset ↦ refl | NotPlanned number place ↦ refl ])
     (plan-told ws (length answer) (length scratch)) (λ a p. p.reply)
 
 unfoldable pub why_answer : Reply → Reason
@@ -265,7 +265,7 @@ pub why-telling : {ws : List ℕ} {period : ℕ} {answer answer' scratch scratch
     → Telling why_reply why_answer (WhyAs ws period answer answer' scratch scratch')
 unfolding why_reply why_answer answer_by
 why-telling {ws} {period} {answer} {scratch = scratch} = record {
-  known = λ a p. elim a [ Workable ↦ refl | Blocked register first second ↦ refl | NotShown number place ↦ refl ];
+  known = λ a p. elim a as (λ k. why_answer (why_reply k) ≡ k) [ Workable ↦ refl | Blocked register first second ↦ refl | NotShown number place ↦ refl ];
   tellable = λ a p. rw p.reply (why-told ws period (length answer) (length scratch) p.chains);
 }
 

@@ -66,6 +66,7 @@ fn refuse(reply: &mut [u64; REPLY_PLACES], number: u32, place: usize) -> u32
 }
 
 // The number of a rule.
+#[tactic(auto, unfolding(checker::specs::Check::rule_number))]
 fn rule_number(rule: Rule) -> u64
     ensures { result ≡ rule_number rule }
 {
@@ -127,6 +128,7 @@ pub extern "C" fn darnerflax_convert(
 }
 
 // The reply of an admissible schedule: the smallest margin, the first pair that has it, and its rule.
+#[tactic(auto, unfolding(checker::specs::Check::check_reply, checker::specs::Check::check_values, checker::specs::Check::smallest_numbers, crate::specs::Coded::places_of))]
 fn tell_admissible(reply: &mut [u64; REPLY_PLACES], x: Smallest) -> u32
     ensures status { result ≡ result_status }
     ensures places { reply.new ≡ places_of (check_reply (Admissible x)) }
@@ -137,6 +139,7 @@ fn tell_admissible(reply: &mut [u64; REPLY_PLACES], x: Smallest) -> u32
 }
 
 // And of any other: pair k and the rule that it breaks besides.
+#[tactic(auto, unfolding(checker::specs::Check::check_reply, checker::specs::Check::check_values, checker::specs::Check::smallest_numbers, crate::specs::Coded::places_of))]
 fn tell_broken(reply: &mut [u64; REPLY_PLACES], k: usize, broken: Rule, x: Smallest) -> u32
     ensures status { result ≡ result_status }
     ensures places { reply.new ≡ places_of (check_reply (Broken k broken x)) }

@@ -107,11 +107,9 @@ fn leads(
     choice: u32,
 ) -> bool {
     let mut at = forced_at(register, choice);
-    let mut i = 0;
-    while i < count {
+    for i in 0..count {
         let step = rules::at(steps, i);
         at = follow(numbers, needs, m, step, period, offset, at);
-        i += 1;
     }
     at.forced && at.register == register && at.choice == opposite(choice)
 }
@@ -181,11 +179,9 @@ pub fn common(numbers: &[u32], needs: &[u32], m: usize) -> u32
     ensures { result < 2 ^ 21 }
 {
     let mut most: u32 = 1;
-    let mut k = 0;
-    while k < m {
+    for k in 0..m {
         let asks = asked(numbers, needs, k);
         most = larger(asks, most);
-        k += 1;
     }
     most
 }

@@ -40,10 +40,8 @@ fn link(r: u32, by_hold: bool, against: bool, at: usize, numbers: &mut [u32])
 }
 
 fn links(by_hold: bool, against: bool, numbers: &mut [u32]) {
-    let mut k = 0;
-    while k < LINKS {
+    for k in 0..LINKS {
         link(k as u32 + 1, by_hold, against, 4 * k, numbers);
-        k += 1;
     }
 }
 

@@ -29,12 +29,10 @@ fn searched(numbers: &[u32], needs: &[u32], n: usize, m: usize, period: u32, mos
     requires { m ≤ max_pairs }
 {
     let mut s = [0u32; 5];
-    let mut offset = most;
-    while offset > 0 {
+    for offset in (1..=most).rev() {
         if rules::first_split(numbers, needs, n, m, period, offset, &mut s) {
             return true;
         }
-        offset -= 1;
     }
     rules::first_split(numbers, needs, n, m, period, 0, &mut s)
 }
@@ -64,11 +62,9 @@ fn periods(words: &[u32], numbers: &[u32], needs: &[u32], n: u32, m: usize, befo
 {
     let most = chains::common(numbers, needs, m);
     let mut tally = before;
-    let mut period = most + 1;
-    while period > 0 {
+    for period in (1..=most + 1).rev() {
         let fate = tried(words, numbers, needs, n, m, period, most);
         tally = tally.with(fate);
-        period -= 1;
     }
     tally
 }
@@ -93,11 +89,9 @@ fn chosen(n: u32, keys: usize, v: u32, numbers: &mut [u32]) -> usize
 {
     let mut rest = v;
     let mut m = 0;
-    let mut key = 0;
-    while key < keys {
+    for key in 0..keys {
         m += pair(rest % CHOICES, key as u32, n, 4 * m, numbers);
         rest = rest / CHOICES;
-        key += 1;
     }
     m
 }
@@ -124,10 +118,8 @@ fn every(n: u32, keys: usize, lists: u32) -> Tally
     requires { (1 ≤ n) × (keys ≤ max_pairs) }
 {
     let mut tally = Tally::none();
-    let mut v: u32 = 0;
-    while v < lists {
+    for v in 0..lists {
         tally = small(n, keys, v, tally);
-        v += 1;
     }
     tally
 }
@@ -161,12 +153,10 @@ fn one(seed: u64, most: u32, before: Tally) -> Drawn {
 fn many(most: u32) -> Tally {
     let mut tally = Tally::none();
     let mut seed: u64 = 23;
-    let mut i: u32 = 0;
-    while i < LISTS {
+    for _ in 0..LISTS {
         let t = one(seed, most, tally);
         tally = t.tally;
         seed = t.seed;
-        i += 1;
     }
     tally
 }

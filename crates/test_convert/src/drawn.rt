@@ -31,10 +31,8 @@ fn pairs(seed: u64, last: u32, most: u32, m: usize, needs: &[u32], numbers: &mut
     requires { m ≤ max_pairs }
 {
     let mut s = seed;
-    let mut k = 0;
-    while k < m {
+    for k in 0..m {
         s = pair(s, last, most, needs, 4 * k, numbers);
-        k += 1;
     }
     s
 }

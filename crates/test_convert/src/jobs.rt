@@ -41,12 +41,10 @@ const LISTS: u32 = 1_000;
 fn common(numbers: &[u32], needs: &[u32], m: usize, zeros: &[u32]) -> u32
     requires { m ≤ max_pairs }
 {
-    let mut t = 1;
-    while t < LONGEST {
+    for t in 1..LONGEST {
         if rules::broken(numbers, needs, m, t, zeros) == 2 * m {
             return t;
         }
-        t += 1;
     }
     LONGEST
 }
@@ -59,10 +57,8 @@ fn lower(low: &mut [u32], i: usize, v: u32) {
 
 // No register is later in `low` than in s.
 fn lowered(low: &mut [u32], s: &[u32], n: usize) {
-    let mut i = 0;
-    while i < n {
+    for i in 0..n {
         lower(low, i, rules::at(s, i));
-        i += 1;
     }
 }
 
@@ -98,15 +94,13 @@ fn earliest(
     requires { m ≤ max_pairs }
 {
     let mut found = false;
-    let mut left: u32 = SCHEDULES;
-    while left > 0 {
+    for _ in 0..SCHEDULES {
         if tried(numbers, needs, n, m, period, s, low) {
             found = true;
         }
         if !rules::advance(s, n, LATEST) {
             return found;
         }
-        left -= 1;
     }
     false
 }
@@ -116,12 +110,10 @@ fn earliest(
 fn free(numbers: &[u32], needs: &[u32], n: usize, m: usize, s: &mut [u32], low: &mut [u32]) -> u32
     requires { m ≤ max_pairs }
 {
-    let mut t = 1;
-    while t <= LONGEST {
+    for t in 1..=LONGEST {
         if earliest(numbers, needs, n, m, t, s, low) {
             return t;
         }
-        t += 1;
     }
     0
 }
@@ -139,12 +131,10 @@ fn offset_of(trial: u32) -> u32 {
 fn first_trial(numbers: &[u32], needs: &[u32], n: usize, m: usize, s: &mut [u32]) -> u32
     requires { m ≤ max_pairs }
 {
-    let mut c = 0;
-    while c < TRIALS {
+    for c in 0..TRIALS {
         if rules::first_split(numbers, needs, n, m, period_of(c), offset_of(c), s) {
             return c;
         }
-        c += 1;
     }
     TRIALS
 }
@@ -176,12 +166,10 @@ fn split_right(
 fn splits_right(words: &[u32], numbers: &[u32], needs: &[u32], n: usize, m: usize) -> bool
     requires { m ≤ max_pairs }
 {
-    let mut c = 0;
-    while c < TRIALS {
+    for c in 0..TRIALS {
         if !split_right(words, numbers, needs, n, m, c) {
             return false;
         }
-        c += 1;
     }
     true
 }
@@ -288,12 +276,10 @@ fn one(seed: u64, need: u32) -> Turn {
 fn many(need: u32) -> Tally {
     let mut tally = Tally::none();
     let mut seed: u64 = 29;
-    let mut i: u32 = 0;
-    while i < LISTS {
+    for _ in 0..LISTS {
         let t = one(seed, need);
         tally = tally.with(t.fate);
         seed = t.seed;
-        i += 1;
     }
     tally
 }

@@ -39,11 +39,9 @@ fn least(j: u32) -> u32
 fn numbers(scattered: bool, copies: u32, out: &mut [u32])
     requires { 1 ≤ copies }
 {
-    let mut k = 0;
-    while k < ALL {
+    for k in 0..ALL {
         let j = turn(k, scattered);
         put(j, j / copies, out, 4 * (k as usize));
-        k += 1;
     }
 }
 
@@ -69,12 +67,10 @@ fn right(read: &[u32], j: u32, copies: u32) -> bool
 fn all_right(read: &[u32], copies: u32) -> bool
     requires { 1 ≤ copies }
 {
-    let mut j = 0;
-    while j < ALL {
+    for j in 0..ALL {
         if !right(read, j, copies) {
             return false;
         }
-        j += 1;
     }
     true
 }

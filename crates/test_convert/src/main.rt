@@ -9,8 +9,8 @@ mod jobs;
 mod large;
 mod plain;
 mod refused;
-mod search;
 mod show;
+mod small;
 
 use std::io;
 
@@ -22,7 +22,7 @@ fn main(rt: HostRuntime) -> io::Result<()> {
     refused::lists(&rt)?;
     refused::needs(&rt)?;
     refused::first(&rt)?;
-    search::lists(&rt)?;
+    small::lists(&rt)?;
     jobs::lists(&rt)?;
     large::lists(&rt)
 }

@@ -31,10 +31,8 @@ pub fn list(n: u32, numbers: &[u32], words: &mut [u32]) -> usize {
 
 // The same needs for every register.
 pub fn alike(hold: u32, setup: u32, needs: &mut [u32]) {
-    let mut r = 0;
-    while r < needs.len() / 2 {
+    for r in 0..needs.len() / 2 {
         needs[2 * r] = hold;
         needs[2 * r + 1] = setup;
-        r += 1;
     }
 }

@@ -3,17 +3,14 @@
 pub const DIRT: u32 = 0xDEAD_BEEF;
 
 pub fn dirty(buffer: &mut [u32]) {
-    let mut i = 0;
-    while i < buffer.len() {
-        buffer[i] = DIRT;
-        i += 1;
+    for x in buffer.iter_mut() {
+        *x = DIRT;
     }
 }
 
 // Whether two buffers hold the same in their first `count` places.
 pub fn same(a: &[u32], b: &[u32], count: usize) -> bool {
-    let mut i = 0;
-    while i < count {
+    for i in 0..count {
         if a.len() <= i {
             return false;
         }
@@ -23,19 +20,16 @@ pub fn same(a: &[u32], b: &[u32], count: usize) -> bool {
         if a[i] != b[i] {
             return false;
         }
-        i += 1;
     }
     true
 }
 
 // Whether the places from `from` on are as they were made dirty.
 pub fn kept(buffer: &[u32], from: usize) -> bool {
-    let mut i = from;
-    while i < buffer.len() {
+    for i in from..buffer.len() {
         if buffer[i] != DIRT {
             return false;
         }
-        i += 1;
     }
     true
 }
@@ -63,15 +57,13 @@ pub fn rest(s: &[u32], from: usize) -> &[u32] {
 
 // Whether the first `count` places are zero.
 pub fn zero(buffer: &[u32], count: usize) -> bool {
-    let mut i = 0;
-    while i < count {
+    for i in 0..count {
         if buffer.len() <= i {
             return false;
         }
         if buffer[i] != 0 {
             return false;
         }
-        i += 1;
     }
     true
 }

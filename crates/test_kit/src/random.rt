@@ -49,11 +49,9 @@ pub struct Drawn {
 // Needs up to `most` in every place. The answer is the next seed.
 pub fn needs(seed: u64, most: u32, needs: &mut [u32]) -> u64 {
     let mut s = seed;
-    let mut i = 0;
-    while i < needs.len() {
+    for x in needs.iter_mut() {
         s = next(s);
-        needs[i] = up_to(s, most);
-        i += 1;
+        *x = up_to(s, most);
     }
     s
 }
@@ -130,13 +128,11 @@ pub fn pairs(seed: u64, last: u32, most: u32, m: usize, needs: &[u32], numbers: 
     let all = spare_keys(last + 1, m as u32);
     let mut spare = all;
     let mut s = seed;
-    let mut k = 0;
-    while k < m {
+    for k in 0..m {
         s = next(s);
         spare = spare - gap(s, spare, (m - k) as u32);
         let key = (k as u32) + (all - spare);
         s = pair(s, key, last + 1, most, needs, 4 * k, numbers);
-        k += 1;
     }
     s
 }

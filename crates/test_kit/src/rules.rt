@@ -81,11 +81,9 @@ pub fn smallest(numbers: &[u32], needs: &[u32], m: usize, period: u32, s: &[u32]
         word: BELOW - 1,
         place: 0,
     };
-    let mut k = 0;
-    while k < m {
+    for k in 0..m {
         low = lowest(low, setup_margin(numbers, needs, k, period, s), 2 * k);
         low = lowest(low, hold_margin(numbers, needs, k, s), 2 * k + 1);
-        k += 1;
     }
     low
 }
@@ -94,15 +92,13 @@ pub fn smallest(numbers: &[u32], needs: &[u32], m: usize, period: u32, s: &[u32]
 pub fn broken(numbers: &[u32], needs: &[u32], m: usize, period: u32, s: &[u32]) -> usize
     requires { m ≤ max_pairs }
 {
-    let mut k = 0;
-    while k < m {
+    for k in 0..m {
         if setup_margin(numbers, needs, k, period, s) >= BELOW {
             return 2 * k;
         }
         if hold_margin(numbers, needs, k, s) >= BELOW {
             return 2 * k + 1;
         }
-        k += 1;
     }
     2 * m
 }
@@ -122,12 +118,10 @@ fn bump(s: &mut [u32], i: usize, most: u32) -> bool {
 
 // The next schedule of n registers with timings up to most; false after the last.
 pub fn advance(s: &mut [u32], n: usize, most: u32) -> bool {
-    let mut i = 0;
-    while i < n {
+    for i in 0..n {
         if bump(s, i, most) {
             return true;
         }
-        i += 1;
     }
     false
 }
@@ -145,9 +139,7 @@ fn timing_of(offset: u32, choice: u32) -> u32 {
 // The timings of split v of n registers: its last digit in base two is the last register's choice.
 fn timings(v: u32, n: usize, offset: u32, s: &mut [u32]) {
     let mut rest = v;
-    let mut i = n;
-    while i > 0 {
-        i -= 1;
+    for i in (0..n).rev() {
         set(s, i, timing_of(offset, rest % 2));
         rest = rest / 2;
     }
@@ -165,13 +157,11 @@ pub fn first_split(
 ) -> bool
     requires { m ≤ max_pairs }
 {
-    let mut v: u32 = 0;
-    while v < SPLITS {
+    for v in 0..SPLITS {
         timings(v, n, offset, s);
         if broken(numbers, needs, m, period, s) == 2 * m {
             return true;
         }
-        v += 1;
     }
     false
 }

@@ -144,12 +144,10 @@ fn fate(kind: u32, seed: u64, count: usize, words: &mut [u32]) -> u32 {
 fn lists(kind: u32, most: u32) -> Tally {
     let mut tally = Tally::none();
     let mut seed: u64 = 1;
-    let mut i: u32 = 0;
-    while i < LISTS {
+    for _ in 0..LISTS {
         let t = one(kind, most, seed);
         tally = tally.with(t.fate);
         seed = t.seed;
-        i += 1;
     }
     tally
 }

@@ -3,11 +3,11 @@
 #![tactic(auto)]
 
 mod large;
-mod search;
+mod small;
 
 use std::io;
 
 fn main(rt: HostRuntime) -> io::Result<()> {
-    search::lists(&rt)?;
+    small::lists(&rt)?;
     large::lists(&rt)
 }

@@ -49,10 +49,8 @@ fn pair(m: usize, k: usize, against: bool, least: u32, greatest: u32, numbers: &
 fn pairs(m: usize, against: bool, least: u32, greatest: u32, numbers: &mut [u32])
     requires { m ≤ max_registers }
 {
-    let mut k = 0;
-    while k < m {
+    for k in 0..m {
         pair(m, k, against, least, greatest, numbers);
-        k += 1;
     }
 }
 

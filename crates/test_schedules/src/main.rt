@@ -5,7 +5,7 @@
 mod examples;
 mod large;
 mod plain;
-mod search;
+mod small;
 
 use std::io;
 
@@ -17,8 +17,8 @@ fn main(rt: HostRuntime) -> io::Result<()> {
     examples::ties(&rt)?;
     examples::margins(&rt)?;
     examples::refusals(&rt)?;
-    search::free_schedules(&rt)?;
-    search::checks(&rt)?;
+    small::free_schedules(&rt)?;
+    small::checks(&rt)?;
     large::chains(&rt)?;
     large::rings(&rt)?;
     large::needy(&rt)

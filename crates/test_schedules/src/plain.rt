@@ -9,12 +9,10 @@ const SCHEDULES: u32 = 100_000;
 
 // Whether no register of the first n is later in a than in b.
 fn below(a: &[u32], b: &[u32], n: usize) -> bool {
-    let mut i = 0;
-    while i < n {
+    for i in 0..n {
         if at(b, i) < at(a, i) {
             return false;
         }
-        i += 1;
     }
     true
 }
@@ -55,13 +53,11 @@ pub fn searched(
     requires { m ≤ max_pairs }
 {
     let mut found = 0;
-    let mut left: u32 = SCHEDULES;
-    while left > 0 {
+    for _ in 0..SCHEDULES {
         found = larger(found, judged(numbers, needs, n, m, period, s, best));
         if !advance(s, n, most) {
             return found;
         }
-        left -= 1;
     }
     2
 }

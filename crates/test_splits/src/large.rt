@@ -41,10 +41,8 @@ fn pair(k: usize, against: bool, numbers: &mut [u32])
 }
 
 fn pairs(against: bool, numbers: &mut [u32]) {
-    let mut k = 0;
-    while k < CHAIN {
+    for k in 0..CHAIN {
         pair(k, against, numbers);
-        k += 1;
     }
 }
 

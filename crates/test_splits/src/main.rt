@@ -4,7 +4,7 @@
 
 mod examples;
 mod large;
-mod search;
+mod small;
 
 use std::io;
 
@@ -12,6 +12,6 @@ fn main(rt: HostRuntime) -> io::Result<()> {
     examples::splits(&rt)?;
     examples::needy_splits(&rt)?;
     examples::refusals(&rt)?;
-    search::lists(&rt)?;
+    small::lists(&rt)?;
     large::chains(&rt)
 }

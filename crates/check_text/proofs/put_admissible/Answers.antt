@@ -1,7 +1,8 @@
 -- `put_admissible`: that the schedule is admissible, and then its smallest margin.
-use Rattle.std.proofs.Common.{arith}
+use native.Mathlib.Omega.{arith}
 use Rattle.text_pieces.proofs.PutLaws.{put_then, put-within}
 use Rattle.check_text.specs.CheckText.{answer_text}
+use borrow.Author.Rules.{rules}
 use Rattle.check_text.proofs.put_admissible.Goals as goal
 
 pub returns : goal.returns

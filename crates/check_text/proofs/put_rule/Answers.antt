@@ -1,7 +1,8 @@
 -- `put_rule`: the words for setup and those for hold.
-use Rattle.std.proofs.Common.{arith}
+use native.Mathlib.Omega.{arith}
 use Rattle.text_pieces.proofs.PutLaws.{put_as}
 use Rattle.check_text.specs.CheckText.{rule_width, rule_words}
+use borrow.Author.Rules.{rules}
 use Rattle.check_text.proofs.put_rule.Goals as goal
 
 pub returns-in-Setup : goal.returns-in-Setup

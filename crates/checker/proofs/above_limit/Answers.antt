@@ -1,9 +1,6 @@
 -- `above_limit`: whether some timing is above the limit.
 -- Invariant `Unseen`: the first i are not, so that those from i on decide. What falls: length timings - i.
-use Prim.Native.Nat.{◌-◌}
-use lib.ListN.{length}
-use Rattle.checker.proofs.CheckLaws.{Unseen, unseen-start, unseen-turn, unseen-stop, unseen-end}
-use borrow.Author.Rules.{rules}
+use Rattle.checker.proofs.CheckLaws.{unseen-turn, unseen-stop, unseen-end}
 use Rattle.checker.proofs.above_limit.Goals as goal
 
 pub returns-then-timings-i-gt-MAX_TIMING : goal.returns-then-timings-i-gt-MAX_TIMING

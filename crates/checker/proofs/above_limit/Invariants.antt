@@ -2,8 +2,7 @@
 -- Invariant `Unseen`: the first i are not, so that those from i on decide. What falls: length timings - i.
 use Prim.Native.Nat.{◌-◌}
 use lib.ListN.{length}
-use Rattle.checker.proofs.CheckLaws.{Unseen, unseen-start, unseen-turn, unseen-stop, unseen-end}
-use borrow.Author.Rules.{rules}
+use Rattle.checker.proofs.CheckLaws.{Unseen}
 use Rattle.checker.proofs.above_limit.Given as goal
 
 abbrev pub invariant-loop-i : goal.invariant-loop-i

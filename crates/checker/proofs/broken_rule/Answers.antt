@@ -1,7 +1,6 @@
 -- `broken_rule`: setup where its margin is negative, else hold; so setup is named before hold.
 use Rattle.timing.proofs.MarginLaws.{as_read}
 use Rattle.checker.proofs.MarginLaws.{breaks-hold, breaks-setup}
-use borrow.Author.Rules.{rules}
 use Rattle.checker.proofs.broken_rule.Goals as goal
 
 pub returns-then-setup_margin-ge0 : goal.returns-then-setup_margin-ge0

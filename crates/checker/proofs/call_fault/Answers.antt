@@ -1,6 +1,5 @@
 -- `call_fault`: refusal 3, for the period, the count of timings or a timing; one check of `timing_checks` for each `or`.
 use Rattle.refusals.specs.Checks.{fault_after}
-use borrow.Author.Rules.{rules}
 use Rattle.checker.proofs.call_fault.Goals as goal
 
 pub returns : goal.returns

@@ -1,7 +1,6 @@
 -- `check`: the list is refused, or the call, or the pairs decide. One law for each: the answer, and that it is sound and complete.
 use mathlib.Core.Path.{sym, ◌∙◌}
 use Rattle.checker.proofs.CheckLaws.{by-list, by_call, call-ready, by-pairs}
-use borrow.Author.Rules.{rules}
 use Rattle.checker.proofs.check.Goals as goal
 
 pub checked-requires : goal.checked-requires

@@ -2,7 +2,6 @@
 use native.Mathlib.Omega.{arith}
 use Rattle.timing.proofs.MarginLaws.{as_read}
 use Rattle.checker.proofs.CheckLaws.{by-none, by-met, by-broken, broken-in}
-use borrow.Author.Rules.{rules}
 use Rattle.checker.proofs.checked.Goals as goal
 
 pub returns-then-count-eq0 : goal.returns-then-count-eq0

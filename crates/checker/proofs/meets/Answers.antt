@@ -1,7 +1,6 @@
 -- `meets`: whether the setup margin of pair k is not negative, and then that of hold, at the timings of its two registers.
 use Rattle.timing.proofs.MarginLaws.{as_read}
 use Rattle.checker.proofs.MarginLaws.{met-both, met-not}
-use borrow.Author.Rules.{rules}
 use Rattle.checker.proofs.meets.Goals as goal
 
 pub returns-then-setup_margin-lt0 : goal.returns-then-setup_margin-lt0

@@ -1,6 +1,5 @@
 -- `passes`: the schedule is admissible exactly where the first broken pair is past the last (`none-test`).
 use Rattle.checker.proofs.CheckLaws.{none-test}
-use borrow.Author.Rules.{rules}
 use Rattle.checker.proofs.passes.Goals as goal
 
 pub returns : goal.returns

@@ -1,7 +1,6 @@
 -- `smaller_margin`: hold where its margin is below that of setup, else setup.
 use Rattle.timing.proofs.MarginLaws.{as_read}
 use Rattle.checker.proofs.MarginLaws.{hold-lower, hold-not-lower}
-use borrow.Author.Rules.{rules}
 use Rattle.checker.proofs.smaller_margin.Goals as goal
 
 pub returns-then-hold-setup : goal.returns-then-hold-setup

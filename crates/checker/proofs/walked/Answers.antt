@@ -1,12 +1,7 @@
 -- `walked`: the smallest margin of all pairs, and the first pair that breaks a rule.
 -- Invariant: the walk has come to k pairs (`Walked`), one at the least. What falls: count - k.
-use Prim.Native.Nat.{◌-◌, ◌≤◌}
-use mathlib.Core.Path.{◌≡◌}
 use native.Mathlib.Omega.{arith}
-use Rattle.list_format.proofs.ListLaws.{pair-in}
-use Rattle.checker.specs.Check.{Walked}
 use Rattle.checker.proofs.MarginLaws.{walked_start, walked-turn}
-use borrow.Author.Rules.{rules}
 use Rattle.checker.proofs.walked.Goals as goal
 
 pub loop-k-init : goal.loop-k-init
@@ -14,10 +9,9 @@ loop-k-init c =
     (omega arith, omega (arith, c.requires.count_nonzero), walked_start (rw c.requires.usable_list.pairs_are at c.requires.count_nonzero) c.smaller_margin.ensures)
 
 pub loop-k-preserved : goal.loop-k-preserved
-loop-k-preserved c =
-    (
-      omega arith,
-      omega (arith, c.loop-k-test.true),
-      rw c.walked_on-walk.ensures (walked-turn c.loop-k.invariant.2 (omega (arith, c.loop-k.invariant.0))
-          (omega (arith, c.loop-k-test.true, c.requires.usable_list.pairs_are)) c.smaller_margin-in-loop-k.ensures),
-    )
+loop-k-preserved c = (
+  omega arith,
+  omega (arith, c.loop-k-test.true),
+  rw c.walked_on-walk.ensures (walked-turn c.loop-k.invariant.2 (omega (arith, c.loop-k.invariant.0))
+      (omega (arith, c.loop-k-test.true, c.requires.usable_list.pairs_are)) c.smaller_margin-in-loop-k.ensures),
+)

@@ -1,12 +1,7 @@
 -- `walked`: the smallest margin of all pairs, and the first pair that breaks a rule.
 -- Invariant: the walk has come to k pairs (`Walked`), one at the least. What falls: count - k.
 use Prim.Native.Nat.{◌-◌, ◌≤◌}
-use mathlib.Core.Path.{◌≡◌}
-use native.Mathlib.Omega.{arith}
-use Rattle.list_format.proofs.ListLaws.{pair-in}
 use Rattle.checker.specs.Check.{Walked}
-use Rattle.checker.proofs.MarginLaws.{walked_start, walked-turn}
-use borrow.Author.Rules.{rules}
 use Rattle.checker.proofs.walked.Given as goal
 
 abbrev pub invariant-loop-k : goal.invariant-loop-k

@@ -1,15 +1,11 @@
 -- `put_pairs`: the words of all pairs, three places each, after the head.
 -- Invariant `Filling`: those of the first k pairs stand there. What falls: m - k.
-use Prim.Native.Nat.{◌-◌}
 use mathlib.Core.Path.{◌≡◌, refl}
 use native.Mathlib.Omega.{arith}
 use lib.ListN.{length, take}
 use lib.Seq.{length-take-le}
-use Rattle.buffers.proofs.FillLaws.{Filling, filled-self, filling-start, filling-size, filling-end, filling-turn}
-use Rattle.list_format.specs.Lists.{place_by, pair_at}
-use Rattle.list_format.specs.Write.{three_of}
-use Rattle.counted_list.proofs.CountedLaws.{counted-in, counted-few, counted-fits}
-use borrow.Author.Rules.{rules}
+use Rattle.buffers.proofs.FillLaws.{filled-self, filling-start, filling-turn}
+use Rattle.list_format.specs.Lists.{place_by}
 use Rattle.counted_list.proofs.put_pairs.Goals as goal
 
 pub loop-k-init : goal.loop-k-init

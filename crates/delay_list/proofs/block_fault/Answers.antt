@@ -1,5 +1,5 @@
 -- Where all words of needs pass, 18 decides.
-use Rattle.std.proofs.Common.{sym, ◌∙◌, rules}
+use Rattle.std.proofs.Common.{sym, ◌∙◌}
 use Rattle.refusals.proofs.CheckLaws.{pass-first}
 use Rattle.delay_list.proofs.block_fault.Goals as goal
 

@@ -1,7 +1,6 @@
 -- The words of needs decide, or else the pairs and the end.
 use Rattle.refusals.proofs.CheckLaws.{then-both}
 use Rattle.list_format.specs.Lists.{need_words, block_checks, pairs_checks}
-use Rattle.std.proofs.Common.{rules}
 use Rattle.delay_list.proofs.body_fault.Goals as goal
 
 pub returns : goal.returns

@@ -1,7 +1,7 @@
 -- By the second word; the word of needs of a register stands in the list, and with it counted in the pair is in range.
 use Rattle.std.proofs.Common.{◌<◌, arith}
 use Rattle.list_format.specs.Lists.{need_words}
-use Rattle.list_format.proofs.ListLaws.{stands, none_below, needs-from}
+use Rattle.list_format.proofs.ListLaws.{none_below, needs-from}
 use Rattle.list_format.proofs.NeedsLaws.{hold_at_lem, setup-at, counting-none, counting-at}
 use Rattle.delay_list.proofs.count_needs.Goals as goal
 

@@ -1,5 +1,5 @@
 -- Its word of needs, where there is one.
-use Rattle.std.proofs.Common.{sym, ◌∙◌, arith, rules}
+use Rattle.std.proofs.Common.{sym, ◌∙◌, arith}
 use Rattle.list_format.proofs.NeedsLaws.{hold_at_lem, hold-none}
 use Rattle.delay_list.proofs.hold_at.Goals as goal
 

@@ -1,6 +1,5 @@
 -- What was found before stays; where nothing was, the hold decides.
 use Rattle.refusals.specs.Checks.{or_check}
-use Rattle.std.proofs.Common.{rules}
 use Rattle.delay_list.proofs.hold_fault.Goals as goal
 
 pub returns-in-At : goal.returns-in-At

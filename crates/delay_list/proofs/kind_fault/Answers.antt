@@ -1,6 +1,5 @@
 -- One check of the run for each `or`.
 use Rattle.refusals.specs.Checks.{or_check, fault_after}
-use Rattle.std.proofs.Common.{rules}
 use Rattle.delay_list.proofs.kind_fault.Goals as goal
 
 pub returns : goal.returns

@@ -1,5 +1,5 @@
 -- All four tests of the word are met, so its checks pass.
-use Rattle.std.proofs.Common.{◌≡◌, ℕ, ◌≤◌, true, ◌&&◌, eqb, leb, sym, ◌∙◌, rules, eqb-true, leb-true}
+use Rattle.std.proofs.Common.{◌≡◌, ℕ, ◌≤◌, true, ◌&&◌, eqb, leb, sym, ◌∙◌, eqb-true, leb-true}
 use Rattle.timing.specs.Limits.{max_need}
 use Rattle.timing.proofs.RuleLaws.{and-true}
 use Rattle.words.specs.Word.{kind_needs}

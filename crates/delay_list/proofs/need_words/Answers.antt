@@ -1,5 +1,5 @@
 -- One for each register if the second word is one of needs, and else none.
-use Rattle.std.proofs.Common.{arith, rules, eq-eqb, ne_eqb}
+use Rattle.std.proofs.Common.{arith, eq-eqb, ne_eqb}
 use Rattle.list_format.specs.Lists.{need_words_by}
 use Rattle.delay_list.proofs.need_words.Goals as goal
 

@@ -1,8 +1,7 @@
 -- `needs_fault`: the first fault of the words of needs, one by one, and then 18.
 -- Invariant `Remaining`: what is left of the checks decides as the whole does. What falls: needs - r.
-use Rattle.std.proofs.Common.{◌-◌, ◌&&◌, ltb, [], ◌∷◌, arith, rules}
-use Rattle.refusals.proofs.CheckLaws.{Remaining, remaining-start, remaining-turn, remaining-stops, remaining-end}
-use Rattle.list_format.specs.Lists.{needs_of, no_needs, need_checks}
+use Rattle.std.proofs.Common.{arith}
+use Rattle.refusals.proofs.CheckLaws.{remaining-turn, remaining-stops, remaining-end}
 use Rattle.delay_list.proofs.needs_fault.Goals as goal
 
 pub returns-in-At : goal.returns-in-At

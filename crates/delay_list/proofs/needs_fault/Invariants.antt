@@ -1,7 +1,7 @@
 -- `needs_fault`: the first fault of the words of needs, one by one, and then 18.
 -- Invariant `Remaining`: what is left of the checks decides as the whole does. What falls: needs - r.
-use Rattle.std.proofs.Common.{◌-◌, ◌&&◌, ltb, [], ◌∷◌, arith, rules}
-use Rattle.refusals.proofs.CheckLaws.{Remaining, remaining-start, remaining-turn, remaining-stops, remaining-end}
+use Rattle.std.proofs.Common.{◌-◌, ◌&&◌, ltb, [], ◌∷◌}
+use Rattle.refusals.proofs.CheckLaws.{Remaining}
 use Rattle.list_format.specs.Lists.{needs_of, no_needs, need_checks}
 use Rattle.delay_list.proofs.needs_fault.Given as goal
 

@@ -1,5 +1,5 @@
 -- The pair where one is left, and else the end.
-use Rattle.std.proofs.Common.{◌≡◌, ℕ, ◌-◌, ◌<◌, ◌≤◌, true, false, ltb, arith, rules, le-ltb, lt-ltb}
+use Rattle.std.proofs.Common.{◌≡◌, ℕ, ◌-◌, ◌<◌, ◌≤◌, true, false, ltb, arith, le-ltb, lt-ltb}
 use Rattle.list_format.proofs.ListLaws.{accepted-usable}
 use Rattle.delay_list.proofs.next_from.Goals as goal
 

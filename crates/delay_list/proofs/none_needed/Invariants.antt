@@ -1,7 +1,7 @@
 -- `none_needed`: all needs are 0, unless one is found that is not.
 -- Invariant `NoneTo`: those of the first r registers are 0. What falls: needs - r.
-use Rattle.std.proofs.Common.{◌-◌, sym, ◌∙◌, arith, rules}
-use Rattle.list_format.proofs.NeedsLaws.{NoneTo, none-start, none-turn, none_end, found-hold, found-setup}
+use Rattle.std.proofs.Common.{◌-◌}
+use Rattle.list_format.proofs.NeedsLaws.{NoneTo}
 use Rattle.delay_list.proofs.none_needed.Given as goal
 
 abbrev pub invariant-loop-r : goal.invariant-loop-r

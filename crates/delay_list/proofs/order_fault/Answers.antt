@@ -1,6 +1,5 @@
 -- An order that is not asked for is met, and so is that of the first pair; a later one is compared with the one before it.
-use Rattle.std.proofs.Common.{◌≡◌, ◌-◌, ◌<◌, sym, ◌∙◌, arith, rules}
-use borrow.Author.Tests.{not-true, not-false}
+use Rattle.std.proofs.Common.{◌≡◌, ◌-◌, ◌<◌, sym, ◌∙◌, arith}
 use Rattle.list_format.specs.Lists.{pair_place, written_at}
 use Rattle.list_format.proofs.ListLaws.{order-unasked, order-first, order-later}
 use Rattle.list_format.proofs.NeedsLaws.{needs-few}

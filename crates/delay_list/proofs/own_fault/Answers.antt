@@ -1,5 +1,5 @@
 -- The kinds first, then the values, with 19 last (`hold-last`). Without words of needs every hold is 0.
-use Rattle.std.proofs.Common.{◌+◌, sym, ◌∙◌, arith, rules}
+use Rattle.std.proofs.Common.{◌+◌, sym, ◌∙◌, arith}
 use Rattle.refusals.proofs.CheckLaws.{fault-append}
 use Rattle.refusals.specs.declared.Fault.TheVariants.{None}
 use Rattle.list_format.specs.Lists.{hold_at, pair_place, written_at}

@@ -1,6 +1,5 @@
 -- As it is written, and then with its needs counted in.
 use Rattle.list_format.proofs.ListLaws.{is-counted}
-use Rattle.std.proofs.Common.{rules}
 use Rattle.delay_list.proofs.pair_at.Goals as goal
 
 pub returns : goal.returns

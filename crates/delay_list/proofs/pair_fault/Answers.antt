@@ -1,5 +1,5 @@
 -- Its own checks decide, or else its order.
-use Rattle.std.proofs.Common.{sym, ◌∙◌, rules}
+use Rattle.std.proofs.Common.{sym, ◌∙◌}
 use Rattle.refusals.proofs.CheckLaws.{stop-first, pass-first}
 use Rattle.delay_list.proofs.pair_fault.Goals as goal
 

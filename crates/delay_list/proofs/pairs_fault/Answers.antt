@@ -1,8 +1,7 @@
 -- `pairs_fault`: the first fault of the pairs, one by one, and of the end.
 -- Invariant `Remaining`: what is left of the checks decides as the whole does. What falls: m - k.
-use Rattle.std.proofs.Common.{◌-◌, arith, rules}
-use Rattle.refusals.proofs.CheckLaws.{Remaining, remaining-start, remaining-turn, remaining-stops, remaining-end}
-use Rattle.list_format.specs.Lists.{pair_place, pair_checks, end_checks}
+use Rattle.std.proofs.Common.{arith}
+use Rattle.refusals.proofs.CheckLaws.{remaining-turn, remaining-stops, remaining-end}
 use Rattle.list_format.proofs.NeedsLaws.{needs-few}
 use Rattle.delay_list.proofs.pairs_fault.Goals as goal
 

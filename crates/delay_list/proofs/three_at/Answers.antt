@@ -1,6 +1,5 @@
 -- The three words stand in the list.
-use Rattle.std.proofs.Common.{arith, rules}
-use Rattle.list_format.proofs.ListLaws.{stands, is-written}
+use Rattle.list_format.proofs.ListLaws.{is-written}
 use Rattle.delay_list.proofs.three_at.Goals as goal
 
 pub returns : goal.returns

@@ -1,5 +1,5 @@
 -- The head decides, or else what stands after it.
-use Rattle.std.proofs.Common.{sym, refl, ◌∙◌, arith, rules}
+use Rattle.std.proofs.Common.{sym, refl, ◌∙◌, arith}
 use Rattle.list_format.proofs.ListLaws.{head_in, head-refuses, body-refuses, body-accepts}
 use Rattle.delay_list.proofs.verdict_by.Goals as goal
 

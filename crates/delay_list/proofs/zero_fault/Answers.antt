@@ -1,5 +1,5 @@
 -- Only words of needs that are there can all be 0.
-use Rattle.std.proofs.Common.{rules, le-ltb, lt-ltb}
+use Rattle.std.proofs.Common.{le-ltb, lt-ltb}
 use Rattle.refusals.specs.Checks.{or_check, fault_after}
 use Rattle.delay_list.proofs.zero_fault.Goals as goal
 

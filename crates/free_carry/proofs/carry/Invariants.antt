@@ -1,15 +1,11 @@
 -- `carry`: no register is raised past times that meet the rules, and below what is told there is no schedule.
 -- Invariant `Risen` from the times at the start to those now, and `Bound` of the longest period so far. What falls: the registers left.
 use Prim.Native.Nat.{◌-◌}
-use native.Mathlib.Omega.{arith}
 use lib.ListN.{length}
 use Rattle.timing.specs.Limits.{max_timing}
 use Rattle.list_format.specs.Lists.{pairs}
 use Rattle.free_laws.specs.Constraint.{constraints, Bound}
 use Rattle.free_laws.specs.Raise.{Risen}
-use Rattle.free_laws.proofs.Bound.{bound-low, bound-max}
-use Rattle.free_rounds.proofs.RoundLaws.{risen-start, risen-then, raising-kept}
-use borrow.Author.Rules.{rules}
 use Rattle.free_carry.proofs.carry.Given as goal
 
 abbrev pub invariant-loop-r : goal.invariant-loop-r

@@ -1,8 +1,6 @@
 -- `stack_up`: safe, and it ends; nothing is promised of the marks and the stack.
 -- Invariant: the register at hand has a place among the marks. What falls: the places left on the stack.
 use Prim.Native.Nat.{◌-◌, ◌<◌}
-use native.Mathlib.Omega.{arith}
-use borrow.Author.Rules.{rules}
 use Rattle.free_carry.proofs.stack_up.Given as goal
 
 abbrev pub invariant-loop-height : goal.invariant-loop-height

@@ -1,12 +1,9 @@
 -- `unwind`: no register is raised past times that meet the rules.
 -- Invariant `Risen`: so it is from the times at the start to those now. What falls: the registers left on the stack.
-use native.Mathlib.Omega.{arith}
 use Rattle.timing.specs.Limits.{max_timing}
 use Rattle.list_format.specs.Lists.{pairs}
 use Rattle.free_laws.specs.Constraint.{constraints}
 use Rattle.free_laws.specs.Raise.{Risen}
-use Rattle.free_rounds.proofs.RoundLaws.{risen-start, risen-then, raising-kept}
-use borrow.Author.Rules.{rules}
 use Rattle.free_carry.proofs.unwind.Given as goal
 
 abbrev pub invariant-loop-left : goal.invariant-loop-left

@@ -1,6 +1,5 @@
 -- `along`: one step back along setup or hold, its numbers added to the sums, or the end of the trail. One law for each way.
-use Rattle.free_cycles.proofs.TrailLaws.{back-setup, back-hold, back-stop}
-use borrow.Author.Rules.{rules}
+use Rattle.free_cycles.proofs.TrailLaws.{back-setup, back-hold}
 use Rattle.free_cycles.proofs.along.Goals as goal
 
 pub returns-then-p-w : goal.returns-then-p-w

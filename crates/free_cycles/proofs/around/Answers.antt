@@ -1,13 +1,6 @@
 -- `around`: no schedule at a period shorter than a closed trail asks for; a trail that is not closed asks for 0.
 -- Invariant `Traced`: the sums are those of rules of the list. What falls: n - steps, for each step adds one at least.
-use Prim.Native.Nat.{◌-◌}
-use native.Mathlib.Omega.{arith}
-use borrow.Author.Tests.{ltb-true}
 use Rattle.free_laws.proofs.Cycle.{adds-closed}
-use Rattle.list_format.proofs.ListLaws.{some-registers}
-use Rattle.free_cycles.specs.Tracing.{Traced}
-use Rattle.free_cycles.proofs.TrailLaws.{trail-start}
-use borrow.Author.Rules.{rules}
 use Rattle.free_cycles.proofs.around.Goals as goal
 
 pub returns : goal.returns

@@ -1,10 +1,7 @@
 -- `origin`: n steps back lead to a register of the list.
 -- Invariant `Traced`: the trail stands at one, n steps at most. What falls: n - steps, for each step adds one at least.
 use Prim.Native.Nat.{◌-◌}
-use native.Mathlib.Omega.{arith}
 use Rattle.free_cycles.specs.Tracing.{Traced}
-use Rattle.free_cycles.proofs.TrailLaws.{trail-start}
-use borrow.Author.Rules.{rules}
 use Rattle.free_cycles.proofs.origin.Given as goal
 
 abbrev pub invariant-loop-w : goal.invariant-loop-w

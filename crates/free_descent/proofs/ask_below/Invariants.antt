@@ -1,9 +1,7 @@
 -- `ask_below`: safe, and it ends.
 -- Invariant: left ≤ length x. What falls: the registers left.
 use Prim.Native.Nat.{◌≤◌}
-use native.Mathlib.Omega.{arith}
 use lib.ListN.{length}
-use borrow.Author.Rules.{rules}
 use Rattle.free_descent.proofs.ask_below.Given as goal
 
 abbrev pub invariant-loop-left : goal.invariant-loop-left

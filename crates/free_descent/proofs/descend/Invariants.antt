@@ -1,10 +1,7 @@
 -- `descend`: below what is told there is no schedule: it is what a cycle asks for, or 0.
 -- Invariant: there are as many times as before. What falls: the turns left.
-use mathlib.Core.Path.{◌≡◌, refl, ◌∙◌}
-use native.Mathlib.Omega.{arith}
+use mathlib.Core.Path.{◌≡◌}
 use lib.ListN.{length}
-use Rattle.list_format.proofs.ListLaws.{still-usable}
-use borrow.Author.Rules.{rules}
 use Rattle.free_descent.proofs.descend.Given as goal
 
 abbrev pub invariant-loop-left : goal.invariant-loop-left

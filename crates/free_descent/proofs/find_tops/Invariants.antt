@@ -1,8 +1,6 @@
 -- `find_tops`: safe, and it ends.
 -- Invariant: none but 0 ≤ g. What falls: count - g.
 use Prim.Native.Nat.{◌-◌, ◌≤◌}
-use native.Mathlib.Omega.{arith}
-use borrow.Author.Rules.{rules}
 use Rattle.free_descent.proofs.find_tops.Given as goal
 
 abbrev pub invariant-loop-g : goal.invariant-loop-g

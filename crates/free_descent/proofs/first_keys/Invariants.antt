@@ -1,8 +1,6 @@
 -- `first_keys`: safe, and it ends: only pairs of the list are read.
 -- Invariant: k ≤ count. What falls: count - k.
 use Prim.Native.Nat.{◌-◌, ◌≤◌}
-use native.Mathlib.Omega.{arith}
-use borrow.Author.Rules.{rules}
 use Rattle.free_descent.proofs.first_keys.Given as goal
 
 abbrev pub invariant-loop-k : goal.invariant-loop-k

@@ -1,8 +1,6 @@
 -- `meet_all`: safe, and it ends.
 -- Invariant: none but 0 ≤ end. What falls: the end at hand.
 use Prim.Native.Nat.{◌≤◌}
-use native.Mathlib.Omega.{arith}
-use borrow.Author.Rules.{rules}
 use Rattle.free_descent.proofs.meet_all.Given as goal
 
 abbrev pub invariant-loop-end : goal.invariant-loop-end

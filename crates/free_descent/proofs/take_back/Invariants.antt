@@ -1,8 +1,6 @@
 -- `take_back`: safe, and it ends.
 -- Invariant: left ≤ moves. What falls: the moves left.
 use Prim.Native.Nat.{◌≤◌}
-use native.Mathlib.Omega.{arith}
-use borrow.Author.Rules.{rules}
 use Rattle.free_descent.proofs.take_back.Given as goal
 
 abbrev pub invariant-loop-left : goal.invariant-loop-left

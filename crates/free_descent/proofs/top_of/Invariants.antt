@@ -1,8 +1,6 @@
 -- `top_of`: safe, and it ends.
 -- Invariant: i ≤ 16. What falls: 16 - i.
 use Prim.Native.Nat.{◌-◌, ◌≤◌}
-use native.Mathlib.Omega.{arith}
-use borrow.Author.Rules.{rules}
 use Rattle.free_descent.proofs.top_of.Given as goal
 
 abbrev pub invariant-loop-i : goal.invariant-loop-i

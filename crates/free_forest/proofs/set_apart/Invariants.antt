@@ -1,6 +1,6 @@
 -- `set_apart`: safe, and it ends.
 -- Invariant: r ≤ length x, which is as it was. What falls: length x - r.
-use Rattle.std.proofs.Common.{◌≡◌, ◌-◌, ◌≤◌, length, refl, arith, length-set, rules}
+use Rattle.std.proofs.Common.{◌≡◌, ◌-◌, ◌≤◌, length}
 use Rattle.free_forest.proofs.set_apart.Given as goal
 
 abbrev pub invariant-loop-r : goal.invariant-loop-r

@@ -1,12 +1,6 @@
 -- `chase`: no register is raised past times that meet the rules.
 -- Invariant `Risen`: so it is from the times at the start to those now. What falls: the turns left.
-use native.Mathlib.Omega.{arith}
-use Rattle.timing.specs.Limits.{max_timing}
-use Rattle.list_format.specs.Lists.{pairs}
-use Rattle.free_laws.specs.Constraint.{constraints}
-use Rattle.free_laws.specs.Raise.{Risen}
-use Rattle.free_rounds.proofs.RoundLaws.{risen-start, risen-then, raising-kept}
-use borrow.Author.Rules.{rules}
+use Rattle.free_rounds.proofs.RoundLaws.{risen-then}
 use Rattle.free_line.proofs.chase.Goals as goal
 
 pub loop-left-preserved : goal.loop-left-preserved

@@ -1,9 +1,7 @@
 -- `collect`: safe, and it ends.
 -- Invariant: r ≤ length x. What falls: length x - r.
 use Prim.Native.Nat.{◌-◌, ◌≤◌}
-use native.Mathlib.Omega.{arith}
 use lib.ListN.{length}
-use borrow.Author.Rules.{rules}
 use Rattle.free_line.proofs.collect.Given as goal
 
 abbrev pub invariant-loop-r : goal.invariant-loop-r

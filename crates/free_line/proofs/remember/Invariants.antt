@@ -1,9 +1,7 @@
 -- `remember`: safe, and it ends.
 -- Invariant: i ≤ length x. What falls: length x - i.
 use Prim.Native.Nat.{◌-◌, ◌≤◌}
-use native.Mathlib.Omega.{arith}
 use lib.ListN.{length}
-use borrow.Author.Rules.{rules}
 use Rattle.free_line.proofs.remember.Given as goal
 
 abbrev pub invariant-loop-i : goal.invariant-loop-i

@@ -1,11 +1,6 @@
 -- `visit`: no register is raised past times that meet the rules.
 -- Invariant `Risen`: so it is from the times at the start to those now. What falls: the end at hand.
-use Rattle.timing.specs.Limits.{max_timing}
-use Rattle.list_format.specs.Lists.{pairs}
-use Rattle.free_laws.specs.Constraint.{constraints}
-use Rattle.free_laws.specs.Raise.{Risen}
-use Rattle.free_rounds.proofs.RoundLaws.{risen-start, risen-then, raising-kept}
-use borrow.Author.Rules.{rules}
+use Rattle.free_rounds.proofs.RoundLaws.{risen-then}
 use Rattle.free_line.proofs.visit.Goals as goal
 
 pub loop-end-preserved : goal.loop-end-preserved

@@ -4,8 +4,6 @@ use Rattle.timing.specs.Limits.{max_timing}
 use Rattle.list_format.specs.Lists.{pairs}
 use Rattle.free_laws.specs.Constraint.{constraints}
 use Rattle.free_laws.specs.Raise.{Risen}
-use Rattle.free_rounds.proofs.RoundLaws.{risen-start, risen-then, raising-kept}
-use borrow.Author.Rules.{rules}
 use Rattle.free_line.proofs.visit.Given as goal
 
 abbrev pub invariant-loop-end : goal.invariant-loop-end

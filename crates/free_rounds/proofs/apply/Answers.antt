@@ -1,6 +1,5 @@
 -- `apply`: one rule of the list obeyed (`risen-setup`, `risen-hold`), or the times left as they were.
-use Rattle.std.proofs.Common.{arith, rules}
-use Rattle.free_rounds.proofs.RoundLaws.{risen-start, turn-ready, risen-setup, risen-hold}
+use Rattle.free_rounds.proofs.RoundLaws.{risen-start, risen-setup, risen-hold}
 use Rattle.free_rounds.proofs.apply.Goals as goal
 
 pub returns-then-rule-eq0 : goal.returns-then-rule-eq0

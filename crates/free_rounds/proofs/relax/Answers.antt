@@ -1,8 +1,6 @@
 -- `relax`: the capture raised as far as setup asks, then the launch as far as hold asks (`relax-is`).
-use Rattle.std.proofs.Common.{arith, rules}
 use Rattle.timing.specs.Limits.{max_timing}
 use Rattle.free_laws.proofs.Cap.{relax-is}
-use Rattle.free_rounds.proofs.RoundLaws.{raised}
 use Rattle.free_rounds.proofs.relax.Goals as goal
 
 pub returns : goal.returns

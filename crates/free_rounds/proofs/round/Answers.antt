@@ -1,10 +1,9 @@
 -- `round`: each pair relaxed once, up or down the list.
 -- Invariant: `Part`, the pairs at the first i places have what both rules ask of the times at the start; and k is the place of the next turn.
 -- What falls: count - i.
-use Rattle.std.proofs.Common.{◌≡◌, ◌-◌, ◌<◌, ◌∙◌, arith, rules}
-use Rattle.list_format.specs.Lists.{place_of}
+use Rattle.std.proofs.Common.{◌∙◌, arith}
 use Rattle.list_format.proofs.ListLaws.{place-below, place-next}
-use Rattle.free_rounds.proofs.RoundLaws.{Part, part-start, turn-pair, turn-ready, part-turn, part_end}
+use Rattle.free_rounds.proofs.RoundLaws.{part-turn, part_end}
 use Rattle.free_rounds.proofs.round.Goals as goal
 
 pub loop-i-preserved : goal.loop-i-preserved

@@ -1,10 +1,8 @@
 -- `link`: safe, and it ends: only pairs of the list are read.
 -- Invariant: k ≤ count, and the places for ends are as many as they were. What falls: count - k.
 use Prim.Native.Nat.{◌-◌, ◌≤◌}
-use mathlib.Core.Path.{◌≡◌, refl, ◌∙◌}
-use native.Mathlib.Omega.{arith}
+use mathlib.Core.Path.{◌≡◌}
 use lib.ListN.{length}
-use borrow.Author.Rules.{rules}
 use Rattle.pair_ends.proofs.link.Given as goal
 
 abbrev pub invariant-loop-k : goal.invariant-loop-k

@@ -1,10 +1,9 @@
 -- The walk of the loop: the laws of a turn stand in `TurnLaws`.
-use Rattle.std.proofs.Common.{◌≡◌, Bool, true, false, refl, sym, ◌∙◌, ap, subst, arith, rules}
+use Rattle.std.proofs.Common.{◌≡◌, Bool, true, false, sym, subst}
 use mathlib.Core.Bool.{not}
 use lib.Dec.{T as Holds}
 use Rattle.buffers.proofs.FillLaws.{filled_none, filling-start}
-use Rattle.list_format.specs.Lists.{pair_count}
-use Rattle.read_list.proofs.TurnLaws.{ReadTo, turn-falls, turn_end, turn-room, turn-next}
+use Rattle.read_list.proofs.TurnLaws.{turn-falls, turn_end, turn-room, turn-next}
 use Rattle.read_list.proofs.fill.Goals as goal
 
 held : {b : Bool} → b ≡ true → Holds b

@@ -1,13 +1,11 @@
 -- `fill_needs`: hold and setup of all registers, two places each, from `at` on.
 -- Invariant `Filling`: those of the first r registers stand there. What falls: n - r.
-use Prim.Native.Nat.{◌+◌, ◌-◌, ◌*◌}
+use Prim.Native.Nat.{◌+◌, ◌*◌}
 use mathlib.Core.Path.{◌≡◌, refl}
 use native.Mathlib.Omega.{arith}
 use lib.ListN.{length, take}
 use lib.Seq.{length-take-le}
-use Rattle.buffers.proofs.FillLaws.{Filling, filled-self, filling-start, filling-size, filling-end, filling-turn}
-use Rattle.list_format.specs.Lists.{two_at}
-use borrow.Author.Rules.{rules}
+use Rattle.buffers.proofs.FillLaws.{filled-self, filling-start, filling-turn}
 use Rattle.read_list.proofs.fill_needs.Goals as goal
 
 pub loop-r-init : goal.loop-r-init

@@ -1,10 +1,8 @@
 -- Four stores make one stretch.
 use native.Mathlib.Numerals.{add-one, add-two, add-three}
 use native.Mathlib.Omega.{arith}
-use lib.ListN.{length-set}
 use Rattle.buffers.proofs.FillLaws.{sets-put}
 use Rattle.list_format.specs.Read.{four_of}
-use borrow.Author.Rules.{rules}
 use Rattle.read_list.proofs.put.Goals as goal
 
 pub returns : goal.returns

@@ -8,7 +8,6 @@ use Rattle.list_format.specs.Read.{numbers_of}
 use Rattle.list_format.proofs.ListLaws.{accepted→none, accepted-in}
 use Rattle.list_format.proofs.ReadBack.{numbers-length}
 use Rattle.list_format.proofs.ReadLaws.{read-refused, read_short, read_done}
-use borrow.Author.Rules.{rules}
 use Rattle.read_list.proofs.read.Goals as goal
 
 pub returns-then-answer-four : goal.returns-then-answer-four

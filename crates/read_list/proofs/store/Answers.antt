@@ -5,7 +5,6 @@ use native.Mathlib.Omega.{arith}
 use Rattle.timing.specs.declared.Pair.{Pair}
 use Rattle.list_format.specs.declared.Next.{Next}
 use Rattle.list_format.specs.declared.Next.TheVariants.{One}
-use borrow.Author.Rules.{rules}
 use Rattle.read_list.specs.Stored.{is_one, stored}
 use Rattle.read_list.proofs.store.Goals as goal
 

@@ -1,7 +1,7 @@
 -- `sum`: the words added up, carries out of the word dropped.
 -- Invariant: `acc` is the wrapped sum of the first i words. What falls: count - i.
-use Rattle.std.proofs.Common.{◌≡◌, ◌-◌, ◌≤◌, take, ◌∙◌, arith, rules}
-use Rattle.words.specs.Word.{total, wrapped_sum}
+use Rattle.std.proofs.Common.{◌∙◌, arith, rules}
+use Rattle.words.specs.Word.{total}
 use Rattle.words.proofs.WordLaws.{sum_more}
 use Rattle.words.proofs.sum.Goals as goal
 
@@ -10,6 +10,6 @@ unfolding total
 loop-i-init c = search rules
 
 pub loop-i-preserved : goal.loop-i-preserved
-loop-i-preserved c =     let at = c.loop-i in
+loop-i-preserved c = let at = c.loop-i in
     let ws = c.args.words.now in
     (search rules, c.wrapping_add_u32-acc.ensures.value ∙ sum_more ws at.i _ (omega arith) at.invariant.1)

@@ -1,8 +1,7 @@
 -- `sum`: the words added up, carries out of the word dropped.
 -- Invariant: `acc` is the wrapped sum of the first i words. What falls: count - i.
-use Rattle.std.proofs.Common.{◌≡◌, ◌-◌, ◌≤◌, take, ◌∙◌, arith, rules}
-use Rattle.words.specs.Word.{total, wrapped_sum}
-use Rattle.words.proofs.WordLaws.{sum_more}
+use Rattle.std.proofs.Common.{◌≡◌, ◌-◌, ◌≤◌, take}
+use Rattle.words.specs.Word.{wrapped_sum}
 use Rattle.words.proofs.sum.Given as goal
 
 abbrev pub invariant-loop-i : goal.invariant-loop-i

@@ -1,10 +1,8 @@
 -- `body_fault`: the first refusal of the needs, register by register, and then of the pairs and the room.
 -- Invariant `Remaining`: the checks of register r and later ones decide as the whole run does. What falls: n - r.
 use Prim.Native.Nat.{◌-◌}
-use native.Mathlib.Omega.{arith}
-use Rattle.refusals.proofs.CheckLaws.{Remaining, remaining-start, remaining-turn, remaining-stops, remaining-end}
+use Rattle.refusals.proofs.CheckLaws.{Remaining}
 use Rattle.list_format.specs.Write.{given_need_checks, given_pairs}
-use borrow.Author.Rules.{rules}
 use Rattle.write_list.proofs.body_fault.Given as goal
 
 abbrev pub invariant-loop-r : goal.invariant-loop-r

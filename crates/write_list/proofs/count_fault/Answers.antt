@@ -1,6 +1,5 @@
 -- `count_fault`: the checks of the counts in their order, one for each `or`.
 use Rattle.refusals.specs.Checks.{or_check, fault_after}
-use borrow.Author.Rules.{rules}
 use Rattle.write_list.proofs.count_fault.Goals as goal
 
 pub returns : goal.returns

@@ -1,7 +1,6 @@
 -- `given_needs`: none if all needs are 0, else one for each register.
 use mathlib.Core.Path.{sym, ◌∙◌}
 use Rattle.list_format.proofs.WriteBack.{given-none, given-all}
-use borrow.Author.Rules.{rules}
 use Rattle.write_list.proofs.given_needs.Goals as goal
 
 pub returns-then-none_needed : goal.returns-then-none_needed

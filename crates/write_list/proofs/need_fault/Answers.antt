@@ -1,6 +1,5 @@
 -- `need_fault`: hold, then setup.
 use Rattle.refusals.specs.Checks.{or_check, fault_after}
-use borrow.Author.Rules.{rules}
 use Rattle.write_list.proofs.need_fault.Goals as goal
 
 pub returns : goal.returns

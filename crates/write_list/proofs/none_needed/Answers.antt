@@ -1,10 +1,7 @@
 -- `none_needed`: all needs are 0, unless one is found that is not.
 -- Invariant `NoneBefore`: the first i are 0. What falls: those that are left.
-use Prim.Native.Nat.{◌-◌}
 use mathlib.Core.Path.{sym}
-use lib.ListN.{length}
-use Rattle.list_format.proofs.NeedsLaws.{NoneBefore, before-start, before-turn, before-end, some-needed}
-use borrow.Author.Rules.{rules}
+use Rattle.list_format.proofs.NeedsLaws.{before-end, some-needed}
 use Rattle.write_list.proofs.none_needed.Goals as goal
 
 pub returns-then-needs-i-ne0 : goal.returns-then-needs-i-ne0

@@ -1,10 +1,8 @@
 -- `none_needed`: all needs are 0, unless one is found that is not.
 -- Invariant `NoneBefore`: the first i are 0. What falls: those that are left.
 use Prim.Native.Nat.{◌-◌}
-use mathlib.Core.Path.{sym}
 use lib.ListN.{length}
-use Rattle.list_format.proofs.NeedsLaws.{NoneBefore, before-start, before-turn, before-end, some-needed}
-use borrow.Author.Rules.{rules}
+use Rattle.list_format.proofs.NeedsLaws.{NoneBefore}
 use Rattle.write_list.proofs.none_needed.Given as goal
 
 abbrev pub invariant-loop-i : goal.invariant-loop-i

@@ -2,10 +2,8 @@
 use Prim.Native.Nat.{◌<◌}
 use mathlib.Core.Path.{sym, ◌∙◌}
 use native.Mathlib.Omega.{arith}
-use borrow.Author.Tests.{not-true, not-false}
 use Rattle.list_format.specs.Write.{given_pair}
 use Rattle.list_format.proofs.ListLaws.{order-unasked, order-first, order-later}
-use borrow.Author.Rules.{rules}
 use Rattle.write_list.proofs.order_fault.Goals as goal
 
 pub returns-then-not-asked : goal.returns-then-not-asked

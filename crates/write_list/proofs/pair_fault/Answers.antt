@@ -1,7 +1,6 @@
 -- Its values decide, or else its order.
 use mathlib.Core.Path.{sym, ◌∙◌}
 use Rattle.refusals.proofs.CheckLaws.{stop-first, pass-first}
-use borrow.Author.Rules.{rules}
 use Rattle.write_list.proofs.pair_fault.Goals as goal
 
 pub returns-in-At : goal.returns-in-At

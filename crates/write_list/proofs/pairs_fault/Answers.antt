@@ -1,14 +1,8 @@
 -- `pairs_fault`: the first refusal of the pairs, each with its registers and delays, and then of the room.
 -- Invariant `Remaining`: the checks of pair k and later ones decide as the whole run does. What falls: m - k.
-use Prim.Native.Nat.{◌+◌, ◌-◌}
-use mathlib.Core.List.{[], ◌∷◌}
 use native.Mathlib.Omega.{arith}
-use lib.Dec.{ltb}
 use Rattle.refusals.specs.Checks.{or_check, fault_after}
-use Rattle.refusals.proofs.CheckLaws.{Remaining, remaining-start, remaining-turn, remaining-stops, remaining-end}
-use Rattle.list_format.specs.Lists.{place_by}
-use Rattle.list_format.specs.Write.{given_needs, given_checks}
-use borrow.Author.Rules.{rules}
+use Rattle.refusals.proofs.CheckLaws.{remaining-turn, remaining-stops, remaining-end}
 use Rattle.write_list.proofs.pairs_fault.Goals as goal
 
 pub returns-in-At : goal.returns-in-At

@@ -2,13 +2,10 @@
 -- Invariant `Remaining`: the checks of pair k and later ones decide as the whole run does. What falls: m - k.
 use Prim.Native.Nat.{◌+◌, ◌-◌}
 use mathlib.Core.List.{[], ◌∷◌}
-use native.Mathlib.Omega.{arith}
 use lib.Dec.{ltb}
-use Rattle.refusals.specs.Checks.{or_check, fault_after}
-use Rattle.refusals.proofs.CheckLaws.{Remaining, remaining-start, remaining-turn, remaining-stops, remaining-end}
+use Rattle.refusals.proofs.CheckLaws.{Remaining}
 use Rattle.list_format.specs.Lists.{place_by}
 use Rattle.list_format.specs.Write.{given_needs, given_checks}
-use borrow.Author.Rules.{rules}
 use Rattle.write_list.proofs.pairs_fault.Given as goal
 
 abbrev pub invariant-loop-k : goal.invariant-loop-k

@@ -1,10 +1,8 @@
 -- `put`: the three words of a pair stand from `at` on; three stores make one stretch.
 use native.Mathlib.Numerals.{add-one, add-two}
 use native.Mathlib.Omega.{arith}
-use lib.ListN.{length-set}
 use Rattle.buffers.proofs.FillLaws.{sets-put}
 use Rattle.list_format.specs.Write.{three_of}
-use borrow.Author.Rules.{rules}
 use Rattle.write_list.proofs.put.Goals as goal
 
 pub returns : goal.returns

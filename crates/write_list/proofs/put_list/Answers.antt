@@ -4,7 +4,6 @@ use mathlib.Core.Path.{ap}
 use native.Mathlib.Omega.{arith}
 use Rattle.list_format.proofs.WriteBack.{few-needs, needs-fit, given-fits}
 use Rattle.list_format.proofs.WriteLaws.{opened-is, closed_is}
-use borrow.Author.Rules.{rules}
 use Rattle.write_list.proofs.put_list.Goals as goal
 
 pub put_head-requires : goal.put_head-requires

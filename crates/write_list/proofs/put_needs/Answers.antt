@@ -1,13 +1,11 @@
 -- `put_needs`: the words of needs, one place each, after the head.
 -- Invariant `Filling`: those of the first r registers stand there. What falls: count - r.
-use Prim.Native.Nat.{◌+◌, ◌-◌, ◌<◌}
+use Prim.Native.Nat.{◌+◌, ◌<◌}
 use mathlib.Core.Path.{◌≡◌, refl}
 use native.Mathlib.Omega.{arith}
 use lib.ListN.{length, take}
 use lib.Seq.{length-take-le}
-use Rattle.buffers.proofs.FillLaws.{Filling, filled-self, filling-start, filling-size, filling-end, filling-turn, set-put}
-use Rattle.list_format.specs.Write.{one_of}
-use borrow.Author.Rules.{rules}
+use Rattle.buffers.proofs.FillLaws.{filled-self, filling-start, filling-size, filling-turn, set-put}
 use Rattle.write_list.proofs.put_needs.Goals as goal
 
 pub loop-r-init : goal.loop-r-init

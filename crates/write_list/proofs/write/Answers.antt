@@ -1,6 +1,5 @@
 -- What is written with the order asked for reads back to the same numbers.
 use Rattle.list_format.proofs.WriteLaws.{write-back-as}
-use borrow.Author.Rules.{rules}
 use Rattle.write_list.proofs.write.Goals as goal
 
 pub returns : goal.returns

@@ -2,7 +2,6 @@
 use mathlib.Core.Path.{sym, ◌∙◌}
 use Rattle.list_format.proofs.WriteBack.{given-in}
 use Rattle.list_format.proofs.WriteLaws.{write-refused, write-room, write_done}
-use borrow.Author.Rules.{rules}
 use Rattle.write_list.proofs.write_by.Goals as goal
 
 pub put_list-requires : goal.put_list-requires

@@ -9,7 +9,6 @@ use mathlib.Core.Path.{◌≡◌, sym, ◌∙◌}
 use native.Mathlib.Omega.{arith}
 use borrow.Author.Tests.{ltb-false}
 use Rattle.refusals.proofs.CheckLaws.{stop-first, pass-first, passed}
-use borrow.Author.Rules.{rules}
 use Rattle.write_list.proofs.write_fault.Goals as goal
 
 pub body_fault-requires : goal.body_fault-requires

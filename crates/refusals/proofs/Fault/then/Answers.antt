@@ -1,6 +1,5 @@
 -- A fault stays; without one the other counts.
 use Rattle.refusals.specs.Checks.{then_fault}
-use borrow.Author.Rules.{rules}
 use Rattle.refusals.proofs.Fault.then.Goals as goal
 
 pub returns-in-At : goal.returns-in-At

@@ -1,7 +1,7 @@
 -- `to_bytes`: the bytes of the first `count` words fill the buffer from the front.
 -- Invariant `Filling`: the bytes of the first k words stand there. What falls: count - k.
-use Rattle.std.proofs.Common.{◌-◌, ◌*◌, [], get_or, refl, arith, rules}
-use Rattle.buffers.proofs.FillLaws.{Filling, filled_none, filling-start, filling-size, filling-end, filling-turn}
+use Rattle.std.proofs.Common.{◌-◌, [], get_or}
+use Rattle.buffers.proofs.FillLaws.{Filling}
 use Rattle.words.specs.Bytes.{bytes_of}
 use Rattle.words.proofs.bytes.to_bytes.Given as goal
 

@@ -1,7 +1,7 @@
 -- `to_words`: the first `count` words of the bytes fill the buffer from the front.
 -- Invariant `Filling`: the first k words stand there. What falls: count - k.
-use Rattle.std.proofs.Common.{◌-◌, ◌<◌, [], ◌∷◌, length, refl, arith, rules}
-use Rattle.buffers.proofs.FillLaws.{Filling, filled_none, filling-start, filling-size, filling-end, filling-turn, set-put}
+use Rattle.std.proofs.Common.{◌-◌, [], ◌∷◌}
+use Rattle.buffers.proofs.FillLaws.{Filling}
 use Rattle.words.specs.Bytes.{word_at}
 use Rattle.words.proofs.bytes.to_words.Given as goal
 

@@ -1,0 +1,16 @@
+-- `common`: the largest greatest delay, or 1.
+-- Invariant `Largest`: that of the first k pairs, with the pairs from k on, gives the common period. What falls: count - k.
+use Prim.Native.Nat.{◌-◌}
+use native.Mathlib.Omega.{arith}
+use Rattle.free_climb.proofs.ClimbLaws.{Largest, largest-start, largest-turn, largest-end}
+use borrow.Author.Rules.{rules}
+use Rattle.free_climb.proofs.common.Goals as goal
+
+pub loop-k-init : goal.loop-k-init
+loop-k-init c = largest-start
+
+pub loop-k-preserved : goal.loop-k-preserved
+loop-k-preserved c = largest-turn c.loop-k.invariant (omega arith) c.pair_at-p.ensures c.larger-most.ensures
+
+pub returns : goal.returns
+returns c = largest-end c.loop-k.invariant (omega arith)

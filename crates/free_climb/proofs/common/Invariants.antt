@@ -1,0 +1,13 @@
+-- `common`: the largest greatest delay, or 1.
+-- Invariant `Largest`: that of the first k pairs, with the pairs from k on, gives the common period. What falls: count - k.
+use Prim.Native.Nat.{◌-◌}
+use native.Mathlib.Omega.{arith}
+use Rattle.free_climb.proofs.ClimbLaws.{Largest, largest-start, largest-turn, largest-end}
+use borrow.Author.Rules.{rules}
+use Rattle.free_climb.proofs.common.Given as goal
+
+abbrev pub invariant-loop-k : goal.invariant-loop-k
+invariant-loop-k l = Largest l.words l.most l.k
+
+abbrev pub decreases-loop-k : goal.decreases-loop-k
+decreases-loop-k l = l.count - l.k

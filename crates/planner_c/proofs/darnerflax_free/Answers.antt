@@ -1,0 +1,13 @@
+-- `darnerflax_free` hands on the record of its job: each case of the answer is told by its numbers.
+use Rattle.free_schedule.specs.FreeCall.{free_reply}
+use Rattle.planner_c.specs.Coded.{status_of, places_of}
+use Rattle.planner_c.proofs.ToldLaws.{told-case}
+use Rattle.planner_c.proofs.darnerflax_free.Goals as goal
+
+pub returns-in-Refused : goal.returns-in-Refused
+unfolding free_reply status_of places_of
+returns-in-Refused c = told-case c.free.ensures c.in-Refused.is (c.refuse.ensures.status, c.refuse.ensures.places)
+
+pub returns-in-Periods : goal.returns-in-Periods
+unfolding free_reply status_of places_of
+returns-in-Periods c = told-case c.free.ensures c.in-Periods.is (c.tell.ensures.status, c.tell.ensures.places)

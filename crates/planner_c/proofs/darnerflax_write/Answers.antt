@@ -1,0 +1,13 @@
+-- `darnerflax_write` hands on the record of its job: each case of the answer is told by its numbers.
+use Rattle.list_format.specs.Write.{write_reply}
+use Rattle.planner_c.specs.Coded.{status_of, places_of}
+use Rattle.planner_c.proofs.ToldLaws.{told-case}
+use Rattle.planner_c.proofs.darnerflax_write.Goals as goal
+
+pub returns-in-Refused : goal.returns-in-Refused
+unfolding write_reply status_of places_of
+returns-in-Refused c = told-case c.write.ensures c.in-Refused.is (c.refuse.ensures.status, c.refuse.ensures.places)
+
+pub returns-in-Written : goal.returns-in-Written
+unfolding write_reply status_of places_of
+returns-in-Written c = told-case c.write.ensures c.in-Written.is (c.tell.ensures.status, c.tell.ensures.places)

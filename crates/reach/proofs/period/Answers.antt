@@ -1,0 +1,16 @@
+-- `period`: the longest period that a pair asks for, or 1.
+-- Invariant `Asked`: that of the first k pairs, with the pairs from k on, gives the period. What falls: count - k.
+use native.Mathlib.Omega.{arith}
+use Rattle.reach.proofs.SweepLaws.{asked-start, asked-turn, asked-end}
+use Rattle.reach.proofs.period.Goals as goal
+
+pub loop-k-init : goal.loop-k-init
+loop-k-init c = asked-start
+
+pub loop-k-preserved : goal.loop-k-preserved
+loop-k-preserved c =
+    asked-turn c.loop-k.invariant (omega (arith, c.requires.pairs_are)) c.pair_at-p.ensures
+    c.asked.ensures c.larger-most.ensures
+
+pub returns : goal.returns
+returns c = asked-end c.loop-k.invariant (omega (arith, c.requires.pairs_are))

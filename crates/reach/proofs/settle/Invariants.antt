@@ -1,0 +1,11 @@
+-- `settle`: reaches that no pair raises further.
+-- Invariant `Reaching`: each is a reach of its register. What falls: `room`, which a sweep that raised something leaves smaller.
+use Rattle.plan_laws.specs.Reach.{room}
+use Rattle.reach.specs.Settling.{Reaching}
+use Rattle.reach.proofs.settle.Given as goal
+
+abbrev pub invariant-loop-count : goal.invariant-loop-count
+invariant-loop-count l = Reaching l.words l.count l.top l.reach
+
+abbrev pub decreases-loop-count : goal.decreases-loop-count
+decreases-loop-count l = room l.top l.reach
