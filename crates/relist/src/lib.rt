@@ -6,9 +6,18 @@ ghost use Rattle.std.specs.Prelude.{◌≡◌, ◌∷◌, ◌++◌, ◌+◌, ◌
 ghost use Rattle.buffers.specs.Over.{over};
 ghost use Rattle.ordering.specs.Order.{joined};
 ghost use Rattle.words.specs.Word.{count_bits, register_bits, head_word};
+ghost use Rattle.list_format.specs.Lists.{pair_count, IsAccepted};
 ghost use Rattle.relist.specs.Relist.{block};
 
 use timing::Pair;
+
+// m, the count of pairs of an accepted list.
+pub fn pair_count(words: &[u32]) -> usize
+    requires { IsAccepted words.now }
+    ensures { result ≡ pair_count words.now }
+{
+    words::head_pairs(words[0]) as usize
+}
 
 // Two pairs of the same registers in one.
 pub fn join(p: Pair, q: Pair) -> Pair
