@@ -5,4 +5,3 @@ pub mod FromLaws
 pub mod MergeLaws
 pub mod MergingLaws
 pub mod RestLaws
-mod Turning
