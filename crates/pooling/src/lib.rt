@@ -79,8 +79,8 @@ fn count_pooled(first: &[u32], second: &[u32]) -> usize
     requires { IsAccepted first.now × IsAccepted second.now }
     ensures { (result ≡ length (pooled_pairs first.now second.now)) × (result ≤ 2 ^ count_bits) }
 {
-    let m = delay_list::pair_count(first);
-    let k = delay_list::pair_count(second);
+    let m = relist::pair_count(first);
+    let k = relist::pair_count(second);
     count_walked(
         first,
         delay_list::need_count(first),

@@ -1,19 +1,19 @@
 -- The words of the pooled list, put together: those of the pairs that are met, the unread words of one of the lists copied after them, and
 -- around them the head, the needs and the end word.
-use Prim.Native.Nat.{ℕ, suc, ◌+◌, ◌-◌, ◌*◌, ◌^◌, ◌≤◌, ◌<◌}
-use mathlib.Core.Bool.{Bool, true, cond}
+use Prim.Native.Nat.{ℕ, ◌+◌, ◌-◌, ◌*◌, ◌^◌, ◌≤◌, ◌<◌}
+use mathlib.Core.Bool.{cond}
 use mathlib.Core.List.{List, [], ◌∷◌, ◌++◌, append_assoc, append-nil}
-use mathlib.Core.Path.{◌≡◌, refl, sym, ◌∙◌, ap, subst}
+use mathlib.Core.Path.{◌≡◌, sym, ◌∙◌, ap}
 use native.Mathlib.Numerals.{add-one}
 use native.Mathlib.Omega.{arith}
 use lib.Dec.{ltb}
-use lib.ListN.{length, get_or, take, drop, set, length-append}
+use lib.ListN.{length, get_or, take, set, length-append}
 use lib.Seq.{length-take-le, take_all, take-suc}
 use denote.Ref.{Bor}
 use Rattle.buffers.specs.Over.{over}
 use Rattle.buffers.proofs.FillLaws.{Filled, filled-self, filled-size, filled_put, set-put}
 use Rattle.words.specs.Word.{register_bits}
-use Rattle.list_format.specs.Lists.{pair_count, need_words, place_by}
+use Rattle.list_format.specs.Lists.{pair_count, place_by}
 use Rattle.list_format.specs.Write.{three_of}
 use Rattle.list_format.proofs.NeedsLaws.{needs-few}
 use Rattle.list_format.proofs.ListLaws.{accepted-in}

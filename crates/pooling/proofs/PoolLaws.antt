@@ -3,9 +3,9 @@
 -- where it holds of the pairs of each (`apart`, `both`).
 use Prim.Native.Nat.{ℕ, zero, suc, ◌≤◌, ◌<◌}
 use mathlib.Core.Bool.{Bool, true, false, ◌&&◌}
-use mathlib.Core.List.{List, [], ◌∷◌, ◌++◌}
+use mathlib.Core.List.{List, ◌++◌}
 use mathlib.Core.Logic.{◌⊎◌, inl, inr}
-use mathlib.Core.Path.{◌≡◌, refl, sym, ◌∙◌, ap, subst}
+use mathlib.Core.Path.{◌≡◌, refl, sym, ◌∙◌, subst}
 use native.Mathlib.Nat.{eq-or-lt_of_le, le_of_suc-le-suc}
 use native.Mathlib.Omega.{arith}
 use lib.Dec.{eqb}
@@ -16,18 +16,16 @@ use Rattle.timing.specs.Rules.{Each, time, admissible}
 use Rattle.timing.specs.Limits.{max_registers, max_pairs}
 use Rattle.timing.proofs.EachLaws.{each_map, each-zip, each_append, append-each}
 use Rattle.timing.proofs.RuleLaws.{and-true}
-use Rattle.ordering.specs.Order.{Ascending, Narrow, ordered, Joins}
-use Rattle.ordering.proofs.OrderLaws.{ordered-whole, ordered-ascending, ordered-narrow, ordered-each, each-ordered, ordered_keeps}
+use Rattle.ordering.specs.Order.{Ascending, Narrow, Joins}
+use Rattle.ordering.proofs.OrderLaws.{ordered-whole, ordered-ascending, ordered-narrow, ordered-each, each-ordered}
 use Rattle.ordering.proofs.UniqueLaws.{ascending-unique}
 use Rattle.buffers.proofs.PadLaws.{run-same}
-use Rattle.list_format.specs.Lists.{registers, pair_count, hold_at, setup_at, two_at, needs_of, counting_needs, pairs, WrittenIn, IsAccepted}
+use Rattle.list_format.specs.Lists.{registers, hold_at, setup_at, two_at, needs_of, counting_needs, pairs}
 use Rattle.list_format.proofs.ListLaws.{ListIn}
 use Rattle.free_laws.specs.Constraint.{Meets, setup, hold}
-use Rattle.free_laws.specs.Rival.{Frac, RivalAdmissible}
 use Rattle.free_laws.proofs.ConstraintList.{each-rule, each-pair, admissible→meets, meets→admissible}
-use Rattle.plan_laws.specs.Unbeaten.{WorksOver}
 use Rattle.same_answers.proofs.JoinsLaws.{meets-joins, rival-joins, over-joins}
-use Rattle.relist.specs.Relist.{written_pairs, relisted}
+use Rattle.relist.specs.Relist.{written_pairs}
 use Rattle.relist.proofs.RelistLaws.{counted-joins, Own, own-whole, written-own, each-counted, counted-each}
 use Rattle.relist.proofs.RelistLaws.{relisted-accepted, relisted-registers, relisted-needs, each-relisted, relisted-each}
 use Rattle.merging.specs.Merge.{pooled_pairs}

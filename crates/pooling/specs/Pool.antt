@@ -5,7 +5,7 @@ use Rattle.timing.specs.Limits.{max_pairs}
 use Rattle.refusals.specs.Checks.{Check, first_fault}
 use Rattle.refusals.specs.declared.Fault.{Fault}
 use Rattle.refusals.specs.declared.Fault.TheVariants.{None, At}
-use Rattle.refusals.specs.Reply.{Reply, numbers, list_refusal, of_list, Outcome, done, reply_of, buffer_after, answered}
+use Rattle.refusals.specs.Reply.{Reply, refusal, numbers, Outcome, done, reply_of, buffer_after, answered}
 use Rattle.list_format.specs.Lists.{registers, pair_count, need_words, hold_at, setup_at, needs_of, place_by, pairs, differ, list_checks, IsAccepted}
 use Rattle.relist.specs.Relist.{relisted}
 use Rattle.merging.specs.Merge.{pooled_pairs}
@@ -48,9 +48,20 @@ no_fault (At number place) = false
 abbrev pub refused_list : List ℕ → List ℕ → ℕ
 refused_list ws vs = cond (no_fault (first_fault (list_checks ws))) (cond (no_fault (first_fault (list_checks vs))) 0 2) 1
 
+-- what a caller of a call on several lists is told: a refusal, with the list that it is of, or 0 for none of them, its number and its place; or
+-- the numbers returned
+pub data ListReply : Type 0 where
+  list_refusal : ℕ → ℕ → ℕ → ListReply
+  list_numbers : List ℕ → ListReply
+
+-- what the caller of one list would be told, with the list that a refusal is of
+unfoldable pub of_list : ℕ → Reply → ListReply
+of_list list (refusal number place) = list_refusal list number place
+of_list list (numbers returned) = list_numbers returned
+
 -- the number and values of each case of the answer
-unfoldable pub pool_reply : Pooling → Reply
-pool_reply (Pooled count) = numbers (count ∷ [])
+unfoldable pub pool_reply : Pooling → ListReply
+pool_reply (Pooled count) = list_numbers (count ∷ [])
 pool_reply (Refused list number place) = list_refusal list number place
 
 -- the list us stands for ws and vs together: it is accepted, has their registers and needs, and asks for what each of them asks for

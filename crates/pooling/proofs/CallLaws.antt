@@ -1,31 +1,30 @@
 -- The ways that pooling can end, each with the whole promise; and what is promised of a list pooled with itself, and of the order of the two.
-use Prim.Native.Nat.{ℕ, ◌≤◌, ◌<◌}
-use mathlib.Core.Bool.{Bool, true, false, not, cond}
-use mathlib.Core.List.{List, [], ◌∷◌, ◌++◌}
+use Prim.Native.Nat.{ℕ, ◌≤◌}
+use mathlib.Core.Bool.{true, not}
+use mathlib.Core.List.{List, [], ◌∷◌}
 use mathlib.Core.Path.{◌≡◌, refl, sym, ◌∙◌, ap, subst}
 use native.Mathlib.Omega.{arith}
-use lib.Dec.{ltb}
 use lib.ListN.{length, get_or, take, drop}
 use lib.Seq.{take_at}
 use borrow.Author.Tests.{ltb-false, le-ltb, not-false}
 use Rattle.timing.specs.Limits.{max_pairs}
-use Rattle.ordering.specs.Order.{Ascends, Ascending}
+use Rattle.ordering.specs.Order.{Ascends}
 use Rattle.ordering.proofs.OrderLaws.{ascends_same}
 use Rattle.ordering.proofs.OrderLaws.{list-ascends as ascending-list}
 use Rattle.buffers.specs.Over.{over}
 use Rattle.refusals.specs.Checks.{first_fault}
 use Rattle.refusals.specs.declared.Fault.TheVariants.{None, At}
-use Rattle.refusals.specs.Reply.{refused, done, of_list, reply_of, buffer_after}
-use Rattle.refusals.proofs.CheckLaws.{passed, passes, stop-first, pass-first, both-pass}
-use Rattle.refusals.proofs.ReplyLaws.{first-refused, then-refused, then-done, numbers-none}
+use Rattle.refusals.specs.Reply.{refused, done, reply_of, buffer_after}
+use Rattle.refusals.proofs.CheckLaws.{passed, passes, stop-first, pass-first}
+use Rattle.refusals.proofs.ReplyLaws.{first-refused, then-refused, then-done}
 use Rattle.list_format.specs.Lists.{registers, pair_count, written_at, list_checks, verdict, IsAccepted}
 use Rattle.list_format.specs.declared.Verdict.TheVariants.{Refused}
-use Rattle.list_format.proofs.ListLaws.{ListIn, same, no_difference, refused→fault, accepted→none, accepted-in, list-in, list-ascends, none→accepted}
+use Rattle.list_format.proofs.ListLaws.{same, no_difference, refused→fault, accepted→none, accepted-in, list-in, list-ascends}
 use Rattle.relist.specs.Relist.{written_pairs, relisted}
-use Rattle.relist.proofs.StrungLaws.{no_pair, written-length, written_at}
+use Rattle.relist.proofs.StrungLaws.{no_pair, written-length, written_is}
 use Rattle.relist.proofs.RelistLaws.{relisted-same}
 use Rattle.merging.specs.Merge.{pooled_pairs}
-use Rattle.pooling.specs.Pool.{pooled, same_needs, both_checks, pool_checks, pooling, no_fault, refused_list, pool_reply, StandsFor, PooledAs}
+use Rattle.pooling.specs.Pool.{pooled, same_needs, both_checks, pooling, no_fault, refused_list, of_list, pool_reply, StandsFor, PooledAs}
 use Rattle.pooling.specs.declared.Pooling.TheVariants.{Pooled}
 use Rattle.pooling.specs.declared.Pooling.TheVariants.{Refused as NotPooled}
 use Rattle.pooling.proofs.PoolLaws.{OneChip, turned-chip, at_same, pooled-stands, pairs-turned, pooled-turned, pairs-itself}
@@ -150,7 +149,7 @@ pool-itself ws a room h =
     let none = (accepted→none ws a).none in
     let l = list-in ws none in
     let rise : Ascends (λ k. get_or (written_pairs ws) k no_pair) (length (written_pairs ws)) = rw (written-length ws)
-    (ascends_same (λ k. get_or (written_pairs ws) k no_pair) (written_at ws) (pair_count ws) (written_at ws no_pair) (list-ascends ws none)) in
+    (ascends_same (λ k. get_or (written_pairs ws) k no_pair) (written_at ws) (pair_count ws) (written_is ws no_pair) (list-ascends ws none)) in
     let pairs = pairs-itself ws l (ascending-list (written_pairs ws) no_pair rise) in
     let kept : pooled ws ws ≡ ws = ap (relisted ws) pairs ∙ relisted-same ws l in
     let passes : BothPassed ws ws room = record {
