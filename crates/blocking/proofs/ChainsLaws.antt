@@ -20,7 +20,7 @@ use Rattle.split_laws.specs.Choices.{broken_row}
 use Rattle.propagate.specs.Store.{flags_from, Recorded}
 use Rattle.chain_laws.specs.Chains.{node, leads, ChainSize, Blocks}
 use Rattle.chain_laws.proofs.ChainLaws.{Step, leads-none, leads-step, leads-then}
-use Rattle.forced_late.specs.Forest.{early_early, late_early, late_late, depth_of, step_to, inner, Root}
+use Rattle.forced_late.specs.Forest.{early_early, late_early, late_late, depth_of, step_to, Root}
 use Rattle.forced_late.proofs.ForestLaws.{ends-in, inner-root, inner-roots}
 use Rattle.blocking.specs.Paths.{height_of, root_of, path_up, path_down, second_chain, chains_of, Late, Clashing}
 use Rattle.blocking.proofs.StepLaws.{recorded-broken, broken-recorded, late-late-early, late-late-first, early-early-late}

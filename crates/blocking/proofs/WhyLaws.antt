@@ -1,7 +1,7 @@
 -- The ways that a call can end, each with the whole promise.
 -- A refusal changes nothing. Where no pair clashes, late where the forest is and early elsewhere is a split that works; where one clashes, its
 -- two chains block the period, so no split works.
-use Prim.Native.Nat.{ℕ, zero, ◌+◌, ◌-◌, ◌*◌, ◌/◌, ◌%◌, ◌≤◌, ◌<◌}
+use Prim.Native.Nat.{ℕ, ◌+◌, ◌-◌, ◌*◌, ◌/◌, ◌%◌, ◌≤◌, ◌<◌}
 use mathlib.Core.Bool.{Bool, true, false, not}
 use mathlib.Core.Logic.{inl, inr}
 use mathlib.Core.List.{List, [], ◌++◌, map}

@@ -102,8 +102,8 @@ module _ (ws : List ℕ) where
   pub written-length : length (written_pairs ws) ≡ pair_count ws
   written-length = from-length 0 (pair_count ws)
 
-  pub written_at : (d : Pair) (k : ℕ) → k < pair_count ws → get_or (written_pairs ws) k d ≡ written_at ws k
-  written_at d k h =
+  pub written-at : (d : Pair) (k : ℕ) → k < pair_count ws → get_or (written_pairs ws) k d ≡ written_at ws k
+  written-at d k h =
       let z : 0 + k ≡ k = omega arith in
       from_at d 0 (pair_count ws) k h ∙ ap (written_at ws) z
 
@@ -113,14 +113,14 @@ module _ (ws : List ℕ) where
     written-each h =
         each_at P no_pair (written_pairs ws) (λ k l.
         let below : k < pair_count ws = omega (arith, written-length) in
-        subst P (sym (written_at no_pair k below)) (h k below))
+        subst P (sym (written-at no_pair k below)) (h k below))
 
     pub each-written : Each P (written_pairs ws) → (k : ℕ) → k < pair_count ws → P (written_at ws k)
-    each-written e k h = subst P (written_at no_pair k h) (at_each P no_pair (written_pairs ws) e k (omega (arith, written-length)))
+    each-written e k h = subst P (written-at no_pair k h) (at_each P no_pair (written_pairs ws) e k (omega (arith, written-length)))
 
   -- their numbers are those of the list
   pub written-numbers : strung four_of (written_pairs ws) ≡ numbers_of ws
   written-numbers =
       strung-run four_of no_pair (written_pairs ws)
       ∙ ap (run (λ k. four_of (get_or (written_pairs ws) k no_pair))) written-length
-      ∙ run-same (λ k. four_of (get_or (written_pairs ws) k no_pair)) (λ k. four_of (written_at ws k)) (pair_count ws) (λ k h. ap four_of (written_at no_pair k h))
+      ∙ run-same (λ k. four_of (get_or (written_pairs ws) k no_pair)) (λ k. four_of (written_at ws k)) (pair_count ws) (λ k h. ap four_of (written-at no_pair k h))

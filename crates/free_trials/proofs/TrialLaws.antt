@@ -1,7 +1,7 @@
 -- Trials: what rounds from all zero keep, and what they end in.
 -- Rounds in any order keep x no later than any times that meet the rules (`Under`), so an admissible x is the least schedule.
 -- As many rounds over all pairs as there are registers come to the least schedule, where there is one (`Rounds`, of free_laws).
-use Prim.Native.Nat.{ℕ, ◌+◌, ◌-◌, ◌≤◌}
+use Prim.Native.Nat.{ℕ, ◌+◌, ◌≤◌}
 use mathlib.Core.Bool.{true, false, false≢true}
 use mathlib.Core.List.{List, ◌++◌, append-nil}
 use mathlib.Core.Path.{◌≡◌, refl, ap, sym, ◌∙◌}

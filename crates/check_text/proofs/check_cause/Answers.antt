@@ -1,6 +1,5 @@
 -- `check_cause`: another refusal than 3, a period of 0, one that is too long, a timing, else the count of timings.
 use borrow.Author.Tests.{ne_eqb, lt-ltb}
-use borrow.Author.Rules.{rules}
 use Rattle.check_text.specs.CheckText.{check_cause}
 use Rattle.check_text.proofs.CheckTextLaws.{cause-timing, cause-count}
 use Rattle.check_text.proofs.check_cause.Goals as goal

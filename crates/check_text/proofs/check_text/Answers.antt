@@ -1,7 +1,5 @@
 -- `check_text`: a fault in the text of the schedule comes first; its numbers are then checked against the list.
-use Rattle.scan.proofs.StoredLaws.{stored-fits, stored-lent}
 use Rattle.check_text.proofs.CheckTextLaws.{text-faulty, text-numbers}
-use borrow.Author.Rules.{rules}
 use Rattle.check_text.proofs.check_text.Goals as goal
 
 pub returns-in-Faulty : goal.returns-in-Faulty

@@ -2,7 +2,6 @@
 use native.Mathlib.Omega.{arith}
 use Rattle.text_pieces.proofs.PutLaws.{put_then, put-within}
 use Rattle.check_text.specs.CheckText.{answer_text}
-use borrow.Author.Rules.{rules}
 use Rattle.check_text.proofs.put_admissible.Goals as goal
 
 pub returns : goal.returns

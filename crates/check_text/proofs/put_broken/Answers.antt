@@ -2,7 +2,6 @@
 use Rattle.text_pieces.proofs.PutLaws.{put_then}
 use Rattle.check_text.specs.CheckText.{broken_words, broken_line}
 use Rattle.check_text.proofs.CheckTextLaws.{pair_put}
-use borrow.Author.Rules.{rules}
 use Rattle.check_text.proofs.put_broken.Goals as goal
 
 pub returns : goal.returns

@@ -5,9 +5,9 @@ use Rattle.check_text.proofs.put_checked.Goals as goal
 
 pub put_admissible-size-requires : goal.put_admissible-size-requires
 put_admissible-size-requires c = record {
-      pair_in = met-in c.check.ensures c.in-Admissible.is;
-      text_places_in_bounds = search rules;
-    }
+  pair_in = met-in c.check.ensures c.in-Admissible.is;
+  text_places_in_bounds = search rules;
+}
 
 pub put_failed-size-requires : goal.put_failed-size-requires
 put_failed-size-requires c =

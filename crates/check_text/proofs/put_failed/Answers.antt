@@ -1,7 +1,6 @@
 -- `put_failed`: the first pair that breaks a rule, and then the smallest margin.
 use Rattle.text_pieces.proofs.PutLaws.{put_then}
 use Rattle.check_text.specs.CheckText.{answer_text}
-use borrow.Author.Rules.{rules}
 use Rattle.check_text.proofs.put_failed.Goals as goal
 
 pub returns : goal.returns

@@ -2,7 +2,6 @@
 use mir.Syntax.{w64}
 use mir.ValLaws.{to_z-of_z}
 use Rattle.text_pieces.proofs.PutLaws.{put_then}
-use borrow.Author.Rules.{rules}
 use Rattle.check_text.proofs.put_margin.Goals as goal
 
 pub returns : goal.returns

@@ -2,7 +2,6 @@
 use native.Mathlib.Omega.{arith}
 use Rattle.text_pieces.proofs.PutLaws.{put_as}
 use Rattle.check_text.specs.CheckText.{of_width, of_words}
-use borrow.Author.Rules.{rules}
 use Rattle.check_text.proofs.put_of.Goals as goal
 
 pub returns-in-Setup : goal.returns-in-Setup

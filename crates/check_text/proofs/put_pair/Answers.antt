@@ -1,6 +1,5 @@
 -- `put_pair`: the pair's number, a space, and its registers.
 use Rattle.text_pieces.proofs.PutLaws.{put_then}
-use borrow.Author.Rules.{rules}
 use Rattle.check_text.proofs.put_pair.Goals as goal
 
 pub returns : goal.returns

@@ -1,6 +1,5 @@
 -- `put_registers`: launch and capture, each after its name.
 use Rattle.text_pieces.proofs.PutLaws.{put_then}
-use borrow.Author.Rules.{rules}
 use Rattle.check_text.proofs.put_registers.Goals as goal
 
 pub returns : goal.returns

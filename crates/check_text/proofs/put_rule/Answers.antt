@@ -2,7 +2,6 @@
 use native.Mathlib.Omega.{arith}
 use Rattle.text_pieces.proofs.PutLaws.{put_as}
 use Rattle.check_text.specs.CheckText.{rule_width, rule_words}
-use borrow.Author.Rules.{rules}
 use Rattle.check_text.proofs.put_rule.Goals as goal
 
 pub returns-in-Setup : goal.returns-in-Setup

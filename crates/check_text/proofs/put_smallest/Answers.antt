@@ -3,7 +3,6 @@ use Rattle.timing.proofs.MarginLaws.{as_read}
 use Rattle.text_pieces.proofs.PutLaws.{put_then}
 use Rattle.check_text.specs.CheckText.{pair_words, margin_line}
 use Rattle.check_text.proofs.CheckTextLaws.{pair_put}
-use borrow.Author.Rules.{rules}
 use Rattle.check_text.proofs.put_smallest.Goals as goal
 
 pub returns : goal.returns

@@ -1,10 +1,6 @@
 -- `ascend`: the free period with the free schedule, or a period below which there is no schedule: a longer one, or one left undecided.
 -- Invariant `Climbing`: no schedule below the period, and what its trial told. What falls: the trials left.
-use mathlib.Core.Path.{sym, ◌∙◌}
-use native.Mathlib.Omega.{arith}
-use Rattle.free_climb.proofs.ClimbLaws.{Climbing, climbing-after, climbing-tries}
-use Rattle.free_climb.proofs.ClimbLaws.{ascended-settled, ascended-undecided, ascended-onward}
-use borrow.Author.Rules.{rules}
+use Rattle.free_climb.proofs.ClimbLaws.{ascended-settled}
 use Rattle.free_climb.proofs.ascend.Goals as goal
 
 pub returns : goal.returns

@@ -1,6 +1,5 @@
 -- `climb_few`: plain trials; from a longer period the descent, from one left undecided `climb_on`.
 use Rattle.free_climb.proofs.ClimbLaws.{trial-onward, trial-undecided}
-use borrow.Author.Rules.{rules}
 use Rattle.free_climb.proofs.climb_few.Goals as goal
 
 pub come_down-period-requires : goal.come_down-period-requires

@@ -1,6 +1,5 @@
 -- `climb_on`: trials, and from a period that they come to and leave the descent.
 use Rattle.free_climb.proofs.ClimbLaws.{trial-onward, trial-undecided}
-use borrow.Author.Rules.{rules}
 use Rattle.free_climb.proofs.climb_on.Goals as goal
 
 pub come_down-period-requires : goal.come_down-period-requires

@@ -1,6 +1,5 @@
 -- `close`: trials, and from a period that they come to and leave the climb of `finish`.
 use Rattle.free_climb.proofs.ClimbLaws.{trial-onward, trial-undecided}
-use borrow.Author.Rules.{rules}
 use Rattle.free_climb.proofs.close.Goals as goal
 
 pub finish-requires : goal.finish-requires

@@ -1,6 +1,5 @@
 -- `come_down`: what the descent shows bounds the period (`trial-longer`).
 use Rattle.free_climb.proofs.ClimbLaws.{trial-kept, trial-longer}
-use borrow.Author.Rules.{rules}
 use Rattle.free_climb.proofs.come_down.Goals as goal
 
 pub returns : goal.returns

@@ -1,9 +1,7 @@
 -- `common`: the largest greatest delay, or 1.
 -- Invariant `Largest`: that of the first k pairs, with the pairs from k on, gives the common period. What falls: count - k.
 use Prim.Native.Nat.{◌-◌}
-use native.Mathlib.Omega.{arith}
-use Rattle.free_climb.proofs.ClimbLaws.{Largest, largest-start, largest-turn, largest-end}
-use borrow.Author.Rules.{rules}
+use Rattle.free_climb.proofs.ClimbLaws.{Largest}
 use Rattle.free_climb.proofs.common.Given as goal
 
 abbrev pub invariant-loop-k : goal.invariant-loop-k

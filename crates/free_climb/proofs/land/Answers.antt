@@ -1,6 +1,5 @@
 -- `land`: a trial that tells the period settles it (`trial-settled`); else `close` goes on from it.
-use Rattle.free_climb.proofs.ClimbLaws.{trial-kept, trial-settled}
-use borrow.Author.Rules.{rules}
+use Rattle.free_climb.proofs.ClimbLaws.{trial-settled}
 use Rattle.free_climb.proofs.land.Goals as goal
 
 pub returns-then-told-period : goal.returns-then-told-period

@@ -1,10 +1,7 @@
 -- `lowest`: a period of 1 or more, below which there is no schedule.
 -- Invariant `Most`: `most` is one, from the first k pairs. What falls: count - k.
-use Prim.Native.Nat.{◌-◌}
 use native.Mathlib.Omega.{arith}
-use Rattle.free_laws.proofs.Bound.{bound-low}
-use Rattle.free_climb.proofs.ClimbLaws.{Most, most-turn}
-use borrow.Author.Rules.{rules}
+use Rattle.free_climb.proofs.ClimbLaws.{most-turn}
 use Rattle.free_climb.proofs.lowest.Goals as goal
 
 pub loop-k-preserved : goal.loop-k-preserved

@@ -1,6 +1,5 @@
 -- `answer_by`: both periods and the free schedule, unbeaten and passing a check (`settled`).
 use Rattle.free_schedule.proofs.CallLaws.{settled}
-use borrow.Author.Rules.{rules}
 use Rattle.free_schedule.proofs.answer_by.Goals as goal
 
 pub returns : goal.returns

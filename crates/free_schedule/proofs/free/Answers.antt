@@ -1,7 +1,6 @@
 -- `free`: a refused list is refused with its place, and nothing is stored; an accepted one goes on to `settle`.
 use mathlib.Core.Path.{sym, ◌∙◌}
 use Rattle.free_schedule.proofs.CallLaws.{list-stops, list_counts}
-use borrow.Author.Rules.{rules}
 use Rattle.free_schedule.proofs.free.Goals as goal
 
 pub settle-requires : goal.settle-requires

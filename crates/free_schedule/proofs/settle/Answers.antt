@@ -1,6 +1,5 @@
 -- `settle`: refusal 2 for too few places; else the answer of `answer_by`.
 use Rattle.free_schedule.proofs.CallLaws.{too_small, roomy}
-use borrow.Author.Rules.{rules}
 use Rattle.free_schedule.proofs.settle.Goals as goal
 
 pub returns-then-answer-n : goal.returns-then-answer-n

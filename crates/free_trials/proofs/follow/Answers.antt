@@ -1,7 +1,6 @@
 -- `follow`: what it tells, if not below the period, is what a trial may tell; 0 leaves the period undecided.
 use Rattle.free_rounds.proofs.RoundLaws.{risen-then}
-use Rattle.free_trials.proofs.TrialLaws.{zeros-raise, zeros-risen, trial-limit, under-risen, under-judges, under-told}
-use borrow.Author.Rules.{rules}
+use Rattle.free_trials.proofs.TrialLaws.{zeros-raise, zeros-risen, trial-limit, under-risen, under-told}
 use Rattle.free_trials.proofs.follow.Goals as goal
 
 pub carry-longer-requires : goal.carry-longer-requires

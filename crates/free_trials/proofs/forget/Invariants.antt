@@ -1,8 +1,6 @@
 -- `forget`: safe, and it ends.
 -- Invariant: i ≤ 512. What falls: 512 - i.
 use Prim.Native.Nat.{◌-◌, ◌≤◌}
-use native.Mathlib.Omega.{arith}
-use borrow.Author.Rules.{rules}
 use Rattle.free_trials.proofs.forget.Given as goal
 
 abbrev pub invariant-loop-i : goal.invariant-loop-i

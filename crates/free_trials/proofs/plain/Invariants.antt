@@ -1,11 +1,7 @@
 -- `plain`: what it tells, if not below the period, is what a trial may tell; 0 leaves the period undecided.
 -- Invariant `Under`: x is no later than any times that meet the rules. What falls: most - done.
 use Prim.Native.Nat.{◌-◌}
-use mathlib.Core.Path.{sym, ◌∙◌}
-use native.Mathlib.Omega.{arith}
-use Rattle.free_rounds.proofs.RoundLaws.{round-risen}
-use Rattle.free_trials.proofs.TrialLaws.{Under, under-start, under-turn, under-raises, under-judges, under-told}
-use borrow.Author.Rules.{rules}
+use Rattle.free_trials.proofs.TrialLaws.{Under}
 use Rattle.free_trials.proofs.plain.Given as goal
 
 abbrev pub invariant-loop-done : goal.invariant-loop-done

@@ -1,6 +1,5 @@
 -- `quick`: what it tells, if not below the period, is what a trial may tell; 0 leaves the period undecided.
-use Rattle.free_trials.proofs.TrialLaws.{trial-limit, under-risen, under-judges, under-told}
-use borrow.Author.Rules.{rules}
+use Rattle.free_trials.proofs.TrialLaws.{trial-limit, under-risen, under-told}
 use Rattle.free_trials.proofs.quick.Goals as goal
 
 pub seek-longer-requires : goal.seek-longer-requires

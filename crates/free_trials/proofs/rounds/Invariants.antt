@@ -1,15 +1,10 @@
 -- `rounds`: no register is raised past times that meet the rules, and below what is told there is no schedule.
 -- Invariant `Risen`: so it is from the times at the start to those now. What falls: FEW - done.
 use Prim.Native.Nat.{◌-◌}
-use mathlib.Core.Path.{◌∙◌}
-use native.Mathlib.Omega.{arith}
 use Rattle.timing.specs.Limits.{max_timing}
 use Rattle.list_format.specs.Lists.{pairs}
 use Rattle.free_laws.specs.Constraint.{constraints}
 use Rattle.free_laws.specs.Raise.{Risen}
-use Rattle.free_laws.proofs.Bound.{bound-low}
-use Rattle.free_rounds.proofs.RoundLaws.{risen-start, risen-then, raising-kept, round-risen}
-use borrow.Author.Rules.{rules}
 use Rattle.free_trials.proofs.rounds.Given as goal
 
 abbrev pub invariant-loop-done : goal.invariant-loop-done

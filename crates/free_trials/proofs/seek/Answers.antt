@@ -1,7 +1,6 @@
 -- `seek`: from all zero no register is raised past times that meet the rules, and below what is told there is no schedule.
-use Rattle.free_rounds.proofs.RoundLaws.{risen-then, raising-kept}
-use Rattle.free_trials.proofs.TrialLaws.{zeros-raise, zeros-risen}
-use borrow.Author.Rules.{rules}
+use Rattle.free_rounds.proofs.RoundLaws.{risen-then}
+use Rattle.free_trials.proofs.TrialLaws.{zeros-risen}
 use Rattle.free_trials.proofs.seek.Goals as goal
 
 pub returns-then-period-longer : goal.returns-then-period-longer

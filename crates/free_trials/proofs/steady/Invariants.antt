@@ -1,12 +1,8 @@
 -- `steady`: the period with its least schedule, or a longer one, below which there is no schedule.
 -- Invariant `Trying`: x is what `done` rounds from all zero give. What falls: registers - done.
 use Prim.Native.Nat.{◌-◌}
-use mathlib.Core.Path.{sym, ◌∙◌}
-use native.Mathlib.Omega.{arith}
 use Rattle.list_format.specs.Lists.{registers}
-use Rattle.free_trials.proofs.TrialLaws.{trial-limit, under-raises, under-judges, under-told}
-use Rattle.free_trials.proofs.TrialLaws.{Trying, trying-under, trying_start, trying-turn, trying-passed, trying-failed}
-use borrow.Author.Rules.{rules}
+use Rattle.free_trials.proofs.TrialLaws.{Trying}
 use Rattle.free_trials.proofs.steady.Given as goal
 
 abbrev pub invariant-loop-done : goal.invariant-loop-done

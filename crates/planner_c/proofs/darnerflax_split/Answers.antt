@@ -14,4 +14,4 @@ returns-in-Split c = told-case c.split.ensures c.in-Split.is (c.tell.ensures.sta
 
 pub returns-in-NoSplit : goal.returns-in-NoSplit
 unfolding split_reply status_of places_of
-returns-in-NoSplit c = told-case c.split.ensures c.in-NoSplit.is (c.tell-2.ensures.status, c.tell-2.ensures.places)
+returns-in-NoSplit c = told-case c.split.ensures c.in-NoSplit.is (c.tell-in-NoSplit.ensures.status, c.tell-in-NoSplit.ensures.places)

@@ -14,4 +14,4 @@ returns-in-Workable c = told-case c.why_not.ensures c.in-Workable.is (c.tell.ens
 
 pub returns-in-Blocked : goal.returns-in-Blocked
 unfolding why_reply status_of places_of
-returns-in-Blocked c = told-case c.why_not.ensures c.in-Blocked.is (c.tell-2.ensures.status, c.tell-2.ensures.places)
+returns-in-Blocked c = told-case c.why_not.ensures c.in-Blocked.is (c.tell-in-Blocked.ensures.status, c.tell-in-Blocked.ensures.places)

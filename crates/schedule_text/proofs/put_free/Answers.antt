@@ -2,7 +2,6 @@
 use native.Mathlib.Omega.{arith}
 use Rattle.text_pieces.proofs.PutLaws.{put_then, put-within}
 use Rattle.schedule_text.specs.ScheduleText.{free_line}
-use borrow.Author.Rules.{rules}
 use Rattle.schedule_text.proofs.put_free.Goals as goal
 
 pub returns : goal.returns

@@ -4,7 +4,6 @@ use native.Mathlib.Omega.{arith}
 use lib.ListN.{length}
 use Rattle.timing.specs.Limits.{max_registers}
 use Rattle.schedule_text.proofs.ScheduleTextLaws.{free_in, free-refused, free-periods}
-use borrow.Author.Rules.{rules}
 use Rattle.schedule_text.proofs.put_free_words.Goals as goal
 
 pub bounds-words-0 : goal.bounds-words-0

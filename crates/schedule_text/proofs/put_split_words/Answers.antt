@@ -1,10 +1,6 @@
 -- `put_split_words`: a refusal, no split, and the timings of the first split, each with its text.
-use mathlib.Core.Path.{◌≡◌}
 use native.Mathlib.Omega.{arith}
-use lib.ListN.{length}
-use Rattle.timing.specs.Limits.{max_registers}
 use Rattle.schedule_text.proofs.ScheduleTextLaws.{split-in, split-refused, split-none, split-found}
-use borrow.Author.Rules.{rules}
 use Rattle.schedule_text.proofs.put_split_words.Goals as goal
 
 pub bounds-words-0 : goal.bounds-words-0

@@ -1,6 +1,5 @@
 -- `put_timing`: a register and its timing make a line.
 use Rattle.text_pieces.proofs.PutLaws.{put_then}
-use borrow.Author.Rules.{rules}
 use Rattle.schedule_text.proofs.put_timing.Goals as goal
 
 pub returns : goal.returns

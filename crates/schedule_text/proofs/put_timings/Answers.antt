@@ -1,10 +1,8 @@
 -- `put_timings`: a line for each register.
 -- Invariant `Listing`: the lines of the first r registers are stored. What falls: n - r.
-use Prim.Native.Nat.{◌-◌}
 use native.Mathlib.Omega.{arith}
-use Rattle.text_pieces.proofs.PutLaws.{Listing, listing_start, listing-room, listing-turn, listing-end, put-size}
-use Rattle.schedule_text.specs.ScheduleText.{timing_width, timing_line, timing_lines}
-use borrow.Author.Rules.{rules}
+use Rattle.text_pieces.proofs.PutLaws.{listing_start, listing-turn, listing-end}
+use Rattle.schedule_text.specs.ScheduleText.{timing_lines}
 use Rattle.schedule_text.proofs.put_timings.Goals as goal
 
 pub loop-r-init : goal.loop-r-init

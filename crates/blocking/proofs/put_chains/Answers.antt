@@ -1,0 +1,38 @@
+-- `put_chains`: the path to the root, then both chains (`chains-in`).
+use mathlib.Core.Path.{refl}
+use Rattle.blocking.proofs.PutLaws.{root-few, root-reads, first-asks, first_short, second-asks, chains-in}
+use borrow.Author.Rules.{rules}
+use Rattle.blocking.proofs.put_chains.Goals as goal
+
+pub overflow_add-step : goal.overflow_add-step
+overflow_add-step c =
+    search (rules, root-few c.requires (rw c.pair_at-p.ensures.same at c.trace-b.ensures))
+
+pub offset_bounds-scratch-n : goal.offset_bounds-scratch-n
+offset_bounds-scratch-n c =
+    search (rules, root-few c.requires (rw c.pair_at-p.ensures.same at c.trace-b.ensures))
+
+pub bounds-scratch-n : goal.bounds-scratch-n
+bounds-scratch-n c =
+    root-reads c.requires (rw c.pair_at-p.ensures.same at c.trace-b.ensures)
+
+pub put_first-first-requires : goal.put_first-first-requires
+put_first-first-requires c =
+    first-asks c.requires (rw c.pair_at-p.ensures.same at c.trace-b.ensures)
+
+pub put_second-second-requires : goal.put_second-second-requires
+put_second-second-requires c =
+    let same = c.pair_at-p.ensures.same in
+    let t = rw same at c.trace-b.ensures in
+    second-asks c.requires t (rw same refl) c.put_first-first.ensures.size c.put_first-first.ensures.stored _
+    (search (rules, first_short c.requires t c.put_first-first.ensures.size))
+
+pub overflow_cast-result : goal.overflow_cast-result
+overflow_cast-result c =
+    search (rules, root-few c.requires (rw c.pair_at-p.ensures.same at c.trace-b.ensures))
+
+pub returns : goal.returns
+returns c =
+    let same = c.pair_at-p.ensures.same in
+    chains-in c.requires (rw same at c.trace-b.ensures) (rw same refl) c.put_first-first.ensures.size c.put_first-first.ensures.stored
+    c.put_second-second.ensures.size c.put_second-second.ensures.stored

@@ -1,0 +1,19 @@
+-- `put_made`: numbers that make no list give the line of the refusal; any others, the bytes of their list, converted.
+use Rattle.list_text.proofs.ListTextLaws.{written-room, written-size, make-refused, make-written}
+use Rattle.list_text.proofs.put_made.Goals as goal
+
+pub slice_bounds-words-end : goal.slice_bounds-words-end
+slice_bounds-words-end c = written-room c.write_stored.ensures c.in-Written.is
+
+pub slice_bounds-put_converted-end : goal.slice_bounds-put_converted-end
+slice_bounds-put_converted-end c = written-size c.write_stored.ensures c.in-Written.is
+
+pub returns-in-Refused : goal.returns-in-Refused
+returns-in-Refused c =
+    make-refused c.write_stored.ensures c.args.text.now c.args.needs c.in-Refused.is
+    c.put_refused-size.ensures
+
+pub returns-in-Written : goal.returns-in-Written
+returns-in-Written c =
+    make-written c.write_stored.ensures c.in-Written.is c.args.text.now c.args.needs
+    c.put_converted.ensures

@@ -1,0 +1,12 @@
+-- `put_needs`: a line for each register.
+-- Invariant `Listing`: the lines of the first r registers are stored. What falls: n - r.
+use native.Mathlib.Omega.{arith}
+use Rattle.text_pieces.proofs.PutLaws.{listing_start, listing-turn}
+use Rattle.list_text.proofs.put_needs.Goals as goal
+
+pub loop-r-init : goal.loop-r-init
+loop-r-init c = listing_start (omega arith)
+
+pub loop-r-preserved : goal.loop-r-preserved
+loop-r-preserved c = listing-turn c.loop-r.invariant (omega arith)
+    c.put_two-last.ensures

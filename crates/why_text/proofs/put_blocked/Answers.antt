@@ -1,0 +1,12 @@
+-- `put_blocked`: the register, and then both chains.
+use mathlib.Core.Path.{sym}
+use native.Mathlib.Omega.{arith}
+use lib.Seq.{length-take-le}
+use Rattle.why_text.proofs.StepLaws.{second-in, second-few, blocked-put}
+use borrow.Author.Rules.{rules}
+use Rattle.why_text.proofs.put_blocked.Goals as goal
+
+pub returns : goal.returns
+returns c =
+    blocked-put c.args.register c.args.first c.args.second c.args.steps.now c.requires.shown_in c.args.period c.offset_at-offset.ensures
+    c.put_register-a.ensures c.put_chain-b.ensures c.put_chain.ensures
