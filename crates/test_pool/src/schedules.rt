@@ -3,6 +3,7 @@ use crate::drawn;
 use crate::runs::{Run, many};
 use checker::Checking;
 use pooling::Pooling;
+use std::io;
 use test_kit::places::front;
 use test_kit::random::{next, up_to};
 use test_kit::rules::advance;
@@ -61,8 +62,7 @@ fn fate<'a>(
     s: &mut [u32],
 ) -> u32 {
     let mut found = 0;
-    let mut left: u32 = SCHEDULES;
-    while left > 0 {
+    for _ in 0..SCHEDULES {
         let a = admits(pooled, period, front(s, n));
         if a != both_admit(first, second, period, front(s, n)) {
             return 2;
@@ -71,7 +71,6 @@ fn fate<'a>(
         if !advance(s, n, LATEST) {
             return found;
         }
-        left -= 1;
     }
     2
 }
@@ -111,14 +110,18 @@ pub fn one(seed: u64, need: u32) -> Turn {
     }
 }
 
-fn tell(label: &[u8], t: Tally) {
-    show::text(label);
-    show::count(t.ones, b" with schedules that are admissible for both, ");
-    show::count(t.zeros, b" with none, ");
-    show::count(t.others, b" wrong\n");
+fn tell(rt: &impl Print, label: &str, t: Tally) -> io::Result<()> {
+    show::text(rt, label)?;
+    show::count(rt, t.ones, " with schedules that are admissible for both, ")?;
+    show::count(rt, t.zeros, " with none, ")?;
+    show::count(rt, t.others, " wrong\n")
 }
 
-pub fn lists() {
-    tell(b"schedules: ", many(Run::Schedules(0), LISTS));
-    tell(b"the same with needs: ", many(Run::Schedules(NEED), LISTS));
+pub fn lists(rt: &impl Print) -> io::Result<()> {
+    tell(rt, "schedules: ", many(Run::Schedules(0), LISTS))?;
+    tell(
+        rt,
+        "the same with needs: ",
+        many(Run::Schedules(NEED), LISTS),
+    )
 }

@@ -10,7 +10,7 @@ use test_kit::rules::number;
 use timing::MAX_PAIRS;
 
 // Two lists of n registers, with so many pairs each, and the next seed.
-#[derive(Drop)]
+#[derive(Clone, Copy)]
 pub struct Two {
     pub n: u32,
     pub first: usize,
@@ -36,6 +36,20 @@ fn pairs_from(
     random::pairs(seed, last, delay, m, needs, &mut numbers[from..])
 }
 
+fn fewer(a: u32, b: u32) -> u32
+    ensures { result ≤ a }
+{
+    if a < b { a } else { b }
+}
+
+// A count of pairs of n registers up to `most`, and no more than there are keys.
+fn count(seed: u64, n: u32, most: u32) -> u32
+    requires { n ≤ max_registers }
+    ensures { result ≤ most }
+{
+    up_to(seed, fewer(most, n * n))
+}
+
 // Two lists of up to `registers` registers, no fewer than one, and up to `most` pairs each, ascending, with delays up to `delay`, more
 // with a hold, and needs up to `need`. The numbers of the second stand after those of the first.
 pub fn lists(
@@ -52,9 +66,9 @@ pub fn lists(
 {
     let last = up_to(seed, registers - 1);
     let a = random::needs(seed, need, needs);
-    let first = random::count(next(a), last + 1, most) as usize;
+    let first = count(next(a), last + 1, most) as usize;
     let b = random::pairs(a, last, delay, first, needs, numbers);
-    let second = random::count(next(b), last + 1, most) as usize;
+    let second = count(next(b), last + 1, most) as usize;
     Two {
         n: last + 1,
         first,
@@ -94,7 +108,7 @@ pub const MIXED: u32 = 2;
 pub const BOTH: u32 = 3;
 
 // How many pairs each list has, and the next seed.
-#[derive(Drop)]
+#[derive(Clone, Copy)]
 pub struct Dealt {
     pub first: usize,
     pub second: usize,
@@ -205,10 +219,8 @@ pub fn deal_out(
         second: 0,
         seed,
     };
-    let mut k = 0;
-    while k < m {
+    for k in 0..m {
         d = hand(d, numbers, k, deal, first, second);
-        k += 1;
     }
     d
 }

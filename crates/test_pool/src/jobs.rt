@@ -2,12 +2,12 @@
 ghost use Rattle.std.specs.Prelude.{◌≤◌};
 ghost use Rattle.timing.specs.Limits.{max_pairs};
 
-use crate::drawn;
 use crate::runs::{Run, many};
+use crate::{drawn, searches};
 use planner::Planning;
 use pooling::Pooling;
+use std::io;
 use test_kit::places::{DIRT, front};
-use test_kit::searches;
 use test_kit::tally::Turn;
 
 // The largest lists drawn: registers, the pairs of each, delays before a hold, and needs.
@@ -86,9 +86,10 @@ pub fn one(seed: u64, need: u32) -> Turn {
     }
 }
 
-pub fn lists() {
+pub fn lists(rt: &impl Print) -> io::Result<()> {
     many(Run::Plans(0), LISTS).tell(
-        b"plans of pooled lists against searches over the pairs of both: ",
-    );
-    many(Run::Plans(NEED), LISTS).tell(b"the same with needs: ");
+        rt,
+        "plans of pooled lists against searches over the pairs of both: ",
+    )?;
+    many(Run::Plans(NEED), LISTS).tell(rt, "the same with needs: ")
 }

@@ -5,6 +5,7 @@ use crate::calls::pool_in;
 use crate::show;
 use list_format::Reading;
 use pooling::Pooling;
+use std::io;
 use test_kit::lists::needy;
 use test_kit::places::{DIRT, front, kept, rest, same};
 use test_kit::rules::number;
@@ -22,7 +23,7 @@ const APART: u32 = 100;
 const MOST_KEYS: u32 = 2_560;
 
 // The keys of a list: so many, from one on, each or every second.
-#[derive(Drop)]
+#[derive(Clone, Copy)]
 struct Keys {
     from: u32,
     second: bool,
@@ -133,10 +134,8 @@ fn put(list: Keys, second: bool, k: u32, out: &mut [u32]) {
 
 // The numbers of a list.
 fn numbers(list: Keys, second: bool, out: &mut [u32]) {
-    let mut k = 0;
-    while k < list.count {
+    for k in 0..list.count {
         put(list, second, k, out);
-        k += 1;
     }
 }
 
@@ -185,87 +184,106 @@ fn right(read: &[u32], first: Keys, second: Keys, j: u32) -> bool {
 }
 
 fn all_right(read: &[u32], first: Keys, second: Keys) -> bool {
-    let mut j = 0;
-    while j < ALL {
+    for j in 0..ALL {
         if !right(read, first, second, j) {
             return false;
         }
-        j += 1;
     }
     true
 }
 
-fn tell(yes: bool, right: &[u8], wrong: &[u8]) {
+fn tell(rt: &impl Print, yes: bool, right: &str, wrong: &str) -> io::Result<()> {
     if yes {
-        text(right);
-        return;
+        return text(rt, right);
     }
-    text(wrong);
+    text(rt, wrong)
 }
 
 // Reads a pooled list, and tells whether it has all pairs and these needs.
-fn read(words: &[u32], first: Keys, second: Keys, needs: &[u32]) {
+fn read(
+    rt: &impl Print,
+    words: &[u32],
+    first: Keys,
+    second: Keys,
+    needs: &[u32],
+) -> io::Result<()> {
     let mut back = [DIRT; largest::READ];
     match read_list::read(words, &mut back) {
-        Reading::Refused(code, place) => show::refusal(0, code, place),
+        Reading::Refused(code, place) => show::refusal(rt, 0, code, place),
         Reading::Read(n, m) => {
-            test_kit::show::count(m, b" pairs, ");
+            test_kit::show::count(rt, m, " pairs, ")?;
             tell(
+                rt,
                 n == largest::REGISTERS
                     && m == ALL
                     && all_right(&back, first, second)
                     && same(rest(&back, largest::NUMBERS), needs, needs.len()),
-                b"right\n",
-                b"wrong\n",
-            );
+                "right\n",
+                "wrong\n",
+            )
         }
     }
 }
 
 // Pools two lists, and tells of every place of a buffer that is a place longer than the longest list.
-fn pooled<'a>(a: &'a [u32], b: &'a [u32], first: Keys, second: Keys, needs: &[u32]) {
+fn pooled<'a>(
+    rt: &impl Print,
+    a: &'a [u32],
+    b: &'a [u32],
+    first: Keys,
+    second: Keys,
+    needs: &[u32],
+) -> io::Result<()> {
     let mut answer = [DIRT; largest::WORDS + 1];
     match pooling::pool(a, b, &mut answer) {
-        Pooling::Refused(list, code, place) => show::refusal(list, code, place),
+        Pooling::Refused(list, code, place) => show::refusal(rt, list, code, place),
         Pooling::Pooled(count) => {
-            test_kit::show::number(count as u64);
-            text(b" words, later places ");
-            tell(kept(&answer, count), b"kept, ", b"changed, ");
-            read(front(&answer, count), first, second, needs);
+            test_kit::show::number(rt, count as u64)?;
+            text(rt, " words, later places ")?;
+            tell(rt, kept(&answer, count), "kept, ", "changed, ")?;
+            read(rt, front(&answer, count), first, second, needs)
         }
     }
 }
 
 // Two lists with needs up to `need`.
-fn list(label: &[u8], first: Keys, second: Keys, need: u32) {
+fn list(rt: &impl Print, label: &str, first: Keys, second: Keys, need: u32) -> io::Result<()> {
     let mut needs = [0u32; largest::NEEDS];
     let mut a = [0u32; largest::WORDS];
     let mut b = [0u32; largest::WORDS];
     random::needs(53, need, &mut needs);
     let x = write(first, false, &needs, &mut a);
     let y = write(second, true, &needs, &mut b);
-    text(label);
-    pooled(front(&a, x), front(&b, y), first, second, &needs);
+    text(rt, label)?;
+    pooled(rt, front(&a, x), front(&b, y), first, second, &needs)
 }
 
-fn with_needs(label: &[u8], first: Keys, second: Keys) {
-    list(label, first, second, 0);
-    list(b"the same with needs: ", first, second, MAX_NEED);
+fn with_needs(rt: &impl Print, label: &str, first: Keys, second: Keys) -> io::Result<()> {
+    list(rt, label, first, second, 0)?;
+    list(rt, "the same with needs: ", first, second, MAX_NEED)
 }
 
-pub fn lists() {
-    with_needs(b"512 registers, 1024 pairs each, in turn: ", EVEN, ODD);
-    with_needs(b"the lower pairs in the first list: ", LOWER, UPPER);
-    with_needs(b"the lower pairs in the second list: ", UPPER, LOWER);
-    with_needs(b"2048 pairs each, all in both: ", FULL, FULL);
-    with_needs(b"2048 pairs with every second: ", FULL, EVEN);
-    with_needs(b"2048 pairs with none: ", FULL, NONE);
-    with_needs(b"none with 2048 pairs: ", NONE, FULL);
+pub fn lists(rt: &impl Print) -> io::Result<()> {
+    with_needs(rt, "512 registers, 1024 pairs each, in turn: ", EVEN, ODD)?;
+    with_needs(rt, "the lower pairs in the first list: ", LOWER, UPPER)?;
+    with_needs(rt, "the lower pairs in the second list: ", UPPER, LOWER)?;
+    with_needs(rt, "2048 pairs each, all in both: ", FULL, FULL)?;
+    with_needs(rt, "2048 pairs with every second: ", FULL, EVEN)?;
+    with_needs(rt, "2048 pairs with none: ", FULL, NONE)?;
+    with_needs(rt, "none with 2048 pairs: ", NONE, FULL)
 }
 
 // Pools two lists with needs up to `need`, and up to `other` for the second, into so many places, and tells the refusal; the buffer is
 // kept.
-fn too_many(label: &[u8], first: Keys, second: Keys, need: u32, other: u32, room: usize) {
+fn too_many(
+    rt: &impl Print,
+    label: &str,
+    first: Keys,
+    second: Keys,
+    need: u32,
+    other: u32,
+    room: usize,
+) -> io::Result<()> {
     let mut needs = [0u32; largest::NEEDS];
     let mut a = [0u32; largest::WORDS];
     let mut b = [0u32; largest::WORDS];
@@ -273,63 +291,68 @@ fn too_many(label: &[u8], first: Keys, second: Keys, need: u32, other: u32, room
     let x = write(first, false, &needs, &mut a);
     random::needs(59, other, &mut needs);
     let y = write(second, true, &needs, &mut b);
-    text(label);
-    refuse(front(&a, x), front(&b, y), room);
+    text(rt, label)?;
+    refuse(rt, front(&a, x), front(&b, y), room)
 }
 
-fn refuse<'a>(a: &'a [u32], b: &'a [u32], room: usize) {
+fn refuse<'a>(rt: &impl Print, a: &'a [u32], b: &'a [u32], room: usize) -> io::Result<()> {
     let mut answer = [DIRT; largest::WORDS];
     match pool_in(a, b, &mut answer, room) {
-        Pooling::Pooled(_) => text(b"pooled\n"),
+        Pooling::Pooled(_) => text(rt, "pooled\n"),
         Pooling::Refused(list, code, place) => {
-            tell(kept(&answer, 0), b"kept, ", b"changed, ");
-            show::refusal(list, code, place);
+            tell(rt, kept(&answer, 0), "kept, ", "changed, ")?;
+            show::refusal(rt, list, code, place)
         }
     }
 }
 
-pub fn refused() {
+pub fn refused(rt: &impl Print) -> io::Result<()> {
     let room = largest::WORDS;
-    too_many(b"2048 pairs and another: ", FULL, NEXT, 0, 0, room);
-    too_many(b"the other way round: ", NEXT, FULL, 0, 0, room);
+    too_many(rt, "2048 pairs and another: ", FULL, NEXT, 0, 0, room)?;
+    too_many(rt, "the other way round: ", NEXT, FULL, 0, 0, room)?;
     too_many(
-        b"2049 pairs in turn: ",
+        rt,
+        "2049 pairs in turn: ",
         MORE_EVEN,
         ODD,
         MAX_NEED,
         MAX_NEED,
         room,
-    );
+    )?;
     too_many(
-        b"the same in no place: ",
+        rt,
+        "the same in no place: ",
         MORE_EVEN,
         ODD,
         MAX_NEED,
         MAX_NEED,
         0,
-    );
+    )?;
     too_many(
-        b"the same with other needs: ",
+        rt,
+        "the same with other needs: ",
         MORE_EVEN,
         ODD,
         MAX_NEED,
         0,
         0,
-    );
+    )?;
     too_many(
-        b"2048 pairs in a place too few: ",
+        rt,
+        "2048 pairs in a place too few: ",
         EVEN,
         ODD,
         0,
         0,
         largest::PLAIN_WORDS - 1,
-    );
+    )?;
     too_many(
-        b"the same with needs: ",
+        rt,
+        "the same with needs: ",
         EVEN,
         ODD,
         MAX_NEED,
         MAX_NEED,
         room - 1,
-    );
+    )
 }

@@ -1,6 +1,7 @@
 // Random lists, each with one of the same pairs that has other needs or another count of registers.
 use crate::calls::{pools, refused};
 use crate::runs::{Run, many};
+use std::io;
 use test_kit::lists::{list, needy};
 use test_kit::places::{front, zero};
 use test_kit::random::up_to;
@@ -114,12 +115,12 @@ fn fate(words: &[u32], n: u32, pairs: &[u32], needs: &mut [u32], kind: u32, seed
     with(words, n, pairs, front(needs, own))
 }
 
-pub fn lists() {
+pub fn lists(rt: &impl Print) -> io::Result<()> {
     let t = many(Run::Others(0), LISTS);
-    show::text(b"needs in one list only: ");
-    show::count(t.ones, b" refused, ");
-    show::count(t.zeros, b" all 0 and pooled, ");
-    show::count(t.others, b" wrong\n");
-    many(Run::Others(1), LISTS).tell(b"one setup is another: ");
-    many(Run::Others(2), LISTS).tell(b"a register more: ");
+    show::text(rt, "needs in one list only: ")?;
+    show::count(rt, t.ones, " refused, ")?;
+    show::count(rt, t.zeros, " all 0 and pooled, ")?;
+    show::count(rt, t.others, " wrong\n")?;
+    many(Run::Others(1), LISTS).tell(rt, "one setup is another: ")?;
+    many(Run::Others(2), LISTS).tell(rt, "a register more: ")
 }

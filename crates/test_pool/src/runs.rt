@@ -4,7 +4,7 @@ use test_kit::tally::{Tally, Turn};
 
 // What is run: delays and needs up to these of lists that are merged; how pairs are dealt, and needs up to this; the kind of another list;
 // needs up to this of lists whose schedules or plans are looked at.
-#[derive(Drop)]
+#[derive(Clone, Copy)]
 pub enum Run {
     Merged(u32, u32),
     Dealt(u32, u32),
@@ -27,12 +27,10 @@ fn turn(run: Run, seed: u64) -> Turn {
 pub fn many(run: Run, lists: u32) -> Tally {
     let mut tally = Tally::none();
     let mut seed: u64 = 37;
-    let mut i: u32 = 0;
-    while i < lists {
+    for _ in 0..lists {
         let t = turn(run, seed);
         tally = tally.with(t.fate);
         seed = t.seed;
-        i += 1;
     }
     tally
 }

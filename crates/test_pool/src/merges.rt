@@ -1,12 +1,13 @@
 // Random lists of one chip against a plain merge, and the pairs of one list dealt to two.
 use crate::calls::{ROOM, fits, pools, short};
-use crate::drawn;
 use crate::drawn::{APART, BOTH, MIXED};
 use crate::runs::{Run, many};
+use crate::{drawn, plain};
+use std::io;
 use test_kit::lists::needy;
 use test_kit::places::front;
+use test_kit::random;
 use test_kit::tally::Turn;
-use test_kit::{plain, random};
 use timing::MAX_NEED;
 
 // The largest lists drawn: registers, the pairs of each, and the places of the numbers of both, of the needs, and of the words of one.
@@ -140,12 +141,12 @@ fn dealt_fate<'a>(
     }
 }
 
-pub fn lists() {
-    many(Run::Merged(DELAY, 0), LISTS).tell(b"random lists against a plain merge: ");
-    many(Run::Merged(DELAY, MAX_NEED), LISTS).tell(b"the same with needs: ");
-    many(Run::Merged(3, 2), LISTS).tell(b"delays to 5, needs to 2: ");
-    many(Run::Dealt(APART, 0), LISTS).tell(b"lists without a pair in both: ");
-    many(Run::Dealt(APART, MAX_NEED), LISTS).tell(b"the same with needs: ");
-    many(Run::Dealt(MIXED, MAX_NEED), LISTS).tell(b"lists with some pairs in both: ");
-    many(Run::Dealt(BOTH, MAX_NEED), LISTS).tell(b"lists of the same pairs: ");
+pub fn lists(rt: &impl Print) -> io::Result<()> {
+    many(Run::Merged(DELAY, 0), LISTS).tell(rt, "random lists against a plain merge: ")?;
+    many(Run::Merged(DELAY, MAX_NEED), LISTS).tell(rt, "the same with needs: ")?;
+    many(Run::Merged(3, 2), LISTS).tell(rt, "delays to 5, needs to 2: ")?;
+    many(Run::Dealt(APART, 0), LISTS).tell(rt, "lists without a pair in both: ")?;
+    many(Run::Dealt(APART, MAX_NEED), LISTS).tell(rt, "the same with needs: ")?;
+    many(Run::Dealt(MIXED, MAX_NEED), LISTS).tell(rt, "lists with some pairs in both: ")?;
+    many(Run::Dealt(BOTH, MAX_NEED), LISTS).tell(rt, "lists of the same pairs: ")
 }
