@@ -1,0 +1,114 @@
+-- The words of the pooled list, put together: those of the pairs that are met, the unread words of one of the lists copied after them, and
+-- around them the head, the needs and the end word.
+use Prim.Native.Nat.{ℕ, ◌+◌, ◌-◌, ◌*◌, ◌^◌, ◌≤◌, ◌<◌}
+use mathlib.Core.Bool.{cond}
+use mathlib.Core.List.{List, [], ◌∷◌, ◌++◌, append_assoc, append-nil}
+use mathlib.Core.Path.{◌≡◌, sym, ◌∙◌, ap}
+use native.Mathlib.Numerals.{add-one}
+use native.Mathlib.Omega.{arith}
+use lib.Dec.{ltb}
+use lib.ListN.{length, get_or, take, set, length-append}
+use lib.Seq.{length-take-le, take_all, take-suc}
+use denote.Ref.{Bor}
+use Rattle.buffers.specs.Over.{over}
+use Rattle.buffers.proofs.FillLaws.{Filled, filled-self, filled-size, filled_put, set-put}
+use Rattle.words.specs.Word.{register_bits}
+use Rattle.list_format.specs.Lists.{pair_count, place_by}
+use Rattle.list_format.specs.Write.{three_of}
+use Rattle.list_format.proofs.NeedsLaws.{needs-few}
+use Rattle.list_format.proofs.ListLaws.{accepted-in}
+use Rattle.relist.specs.Relist.{strung, put_at}
+use Rattle.merging.specs.Merge.{pooled_pairs, met_of, all_met, words_from, IsUnread, Mergeable}
+use Rattle.merging.proofs.MergingLaws.{accepted-walkable, threes-length}
+use Rattle.merging.proofs.RestLaws.{rest-words, pooled-words}
+use Rattle.pooling.specs.Pool.{PoolRoom}
+use Rattle.pooling.proofs.PoolLaws.{OneChip}
+
+-- ---- a loop that copies words
+
+-- the first i of them stand in the buffer from a place on
+pub record Copying (xs : List ℕ) (at : ℕ) (was now : List ℕ) (i : ℕ) : Type 0 where
+  pub bound : i ≤ length xs
+  pub filled : Filled (take at was ++ take i xs) was now
+
+module _ (xs : List ℕ) (at : ℕ) (was : List ℕ) (room : at + length xs ≤ length was) where
+  pub copying-start : Copying xs at was was 0
+  copying-start = record { bound = omega arith; filled = rw append-nil (filled-self at was (omega arith)) }
+
+  pub copying-turn : {now : List ℕ} {i : ℕ} → Copying xs at was now i → i < length xs → Copying xs at was (set now (at + i) (get_or xs i 0)) (i + 1)
+  copying-turn {now} {i} h l =
+      let front = length-take-le at was (omega arith) in
+      let stored = length-take-le i xs (omega arith) in
+      let long = length-append (take at was) (take i xs) in
+      let size = filled-size h.filled in
+      let put = filled_put h.filled (get_or xs i 0 ∷ []) (set now (at + i) (get_or xs i 0)) {at = at + i} (omega (arith, front, stored, long))
+      (omega arith) (set-put now (at + i) (get_or xs i 0) (omega (arith, size))) in
+      record {
+        bound = omega arith;
+        filled = rw (add-one i, take-suc xs i 0 l, ← append_assoc (take at was) (take i xs) (get_or xs i 0 ∷ [])) put;
+      }
+
+  pub copying-end : {now : List ℕ} {i : ℕ} → Copying xs at was now i → length xs ≤ i → now ≡ put_at at xs was
+  copying-end {now} {i} h l =
+      let all : take i xs ≡ xs = take_all i xs l in
+      let front = length-take-le at was (omega arith) in
+      let long : length (take at was ++ xs) ≡ at + length xs = length-append (take at was) xs ∙ rw front in
+      h.filled.is ∙ rw (all, long, append_assoc)
+
+-- ---- the pairs
+
+module _ {ws vs : List ℕ} {needs count room : ℕ} (g : PoolRoom ws vs needs count room) where
+  pub one-chip : OneChip ws vs
+  one-chip = record { first = accepted-in ws g.first; second = accepted-in vs g.second; registers_are = g.same; needs_are = g.needed }
+
+  pub front-needs : needs < 2 ^ register_bits
+  front-needs = omega (arith, g.needs_are, needs-few ws)
+
+  -- both lists can be walked into the buffer
+  pub mergeable : {place : ℕ} → place ≡ place_by needs 0 → Mergeable ws vs place room
+  mergeable e = record {
+    first = g.first;
+    second = g.second;
+    small = omega (arith, e, front-needs);
+    fits = omega (arith, e, g.count_is, g.places);
+  }
+
+-- the unread words of one of the two
+abbrev pub rest_words : List ℕ → List ℕ → List ℕ
+rest_words ws vs = cond (ltb (met_of vs ws) (pair_count vs)) (words_from vs (met_of vs ws)) (words_from ws (met_of ws vs))
+
+pub unread-words : (s t r : Bor (List ℕ)) → IsUnread s t r → r.now ≡ rest_words s.now t.now
+unread-words s t r h = rest-words (ltb (met_of t.now s.now) (pair_count t.now)) s (met_of s.now t.now) t (met_of t.now s.now) r h
+
+module _ {ws vs : List ℕ} {needs count : ℕ} (was : List ℕ) (g : PoolRoom ws vs needs count (length was)) {xs : List ℕ} (is : xs ≡ rest_words ws vs) where
+  words_are : strung three_of (pooled_pairs ws vs) ≡ strung three_of (all_met ws vs) ++ xs
+  words_are = pooled-words ws vs (accepted-walkable ws g.first) (accepted-walkable vs g.second) ∙ rw is
+
+  pub rest-size : 3 * count ≡ 3 * length (all_met ws vs) + length xs
+  rest-size =
+      omega (
+        arith,
+        g.count_is,
+        threes-length (pooled_pairs ws vs),
+        threes-length (all_met ws vs),
+        ap length words_are,
+        length-append (strung three_of (all_met ws vs)) xs,
+      )
+
+  pub rest_put : (mid after : List ℕ) {place end : ℕ} → place ≡ place_by needs 0 → end ≡ place_by needs count
+      → mid ≡ over (take place was ++ strung three_of (all_met ws vs)) was → after ≡ put_at (end - length xs) xs mid
+      → after ≡ over (take (1 + needs) was ++ strung three_of (pooled_pairs ws vs)) was
+  rest_put mid after {place} {end} p e m a =
+      let front : place ≡ 1 + needs = omega (arith, p) in
+      let size = length-take-le place was (omega (arith, p, g.places)) in
+      let long = length-append (take place was) (strung three_of (all_met ws vs)) in
+      let met = threes-length (all_met ws vs) in
+      let filled : Filled (take place was ++ strung three_of (all_met ws vs)) was mid =
+      record { room = omega (arith, p, size, long, met, rest-size, g.places); is = m } in
+      let put = filled_put filled xs after {at = end - length xs} (omega (arith, p, e, size, long, met, rest-size))
+      (omega (arith, e, rest-size, g.places)) a in
+      let all : (take place was ++ strung three_of (all_met ws vs)) ++ xs ≡ take (1 + needs) was ++ strung three_of (pooled_pairs ws vs) =
+      append_assoc (take place was) (strung three_of (all_met ws vs)) xs
+      ∙ ap (λ ys. take place was ++ ys) (sym words_are)
+      ∙ ap (λ k. take k was ++ strung three_of (pooled_pairs ws vs)) front in
+      put.is ∙ ap (λ ys. over ys was) all

@@ -1,0 +1,71 @@
+-- Everything is decided before the first word is stored.
+use Rattle.std.proofs.Common.{sym, ◌∙◌, arith, length}
+use Rattle.list_format.proofs.ListLaws.{accepted-in}
+use Rattle.list_format.proofs.NeedsLaws.{needs-few}
+use Rattle.relist.proofs.RelistLaws.{relisted-size}
+use Rattle.merging.specs.Merge.{pooled_pairs}
+use Rattle.pooling.proofs.CallLaws.{both-passed, pool-refused, pool-done}
+use Rattle.pooling.proofs.pool_accepted.Goals as goal
+
+pub pair_place-places-requires : goal.pair_place-places-requires
+pair_place-places-requires c = (omega (arith, c.need_count-needs.ensures, needs-few c.args.first.now), c.count_pooled-count.ensures.1)
+
+pub overflow_add-places : goal.overflow_add-places
+overflow_add-places c =
+    let few = needs-few c.args.first.now in
+    record { fits = omega (arith, c.pair_place-places.ensures, c.count_pooled-count.ensures.1, c.need_count-needs.ensures, few) }
+
+pub both_fault-requires : goal.both_fault-requires
+both_fault-requires c =
+    let ws = c.args.first.now in
+    let vs = c.args.second.now in
+    let count = c.count_pooled-count.ensures.0 in
+    record {
+      first = c.requires.0.0;
+      second = c.requires.1.0;
+      registers_are = c.requires.0.1;
+      others_are = c.requires.1.1;
+      count_is = count;
+      places_are = omega (
+        arith,
+        c.pair_place-places.ensures,
+        count,
+        c.need_count-needs.ensures,
+        relisted-size ws (accepted-in ws c.requires.0.0) (pooled_pairs ws vs),
+      );
+    }
+
+pub put_pooled-requires : goal.put_pooled-requires
+put_pooled-requires c =
+    let ws = c.args.first.now in
+    let vs = c.args.second.now in
+    let p = both-passed ws vs (length c.args.answer.now) (sym c.both_fault.ensures ∙ c.in-None.is) in
+    let count = c.count_pooled-count.ensures.0 in
+    let needed = c.need_count-needs.ensures in (
+      c.requires.0.1,
+      record {
+        first = c.requires.0.0;
+        second = c.requires.1.0;
+        same = p.registers_are;
+        needed = p.needs_are;
+        needs_are = needed;
+        count_is = count;
+        few = omega (arith, count, p.few);
+        places = omega (arith, count, needed, p.fits, relisted-size ws (accepted-in ws c.requires.0.0) (pooled_pairs ws vs));
+      },
+    )
+
+pub returns-in-At : goal.returns-in-At
+returns-in-At c =
+    pool-refused c.args.first.now c.args.second.now c.args.answer.now c.requires.0.0 c.requires.1.0
+    (sym c.both_fault.ensures ∙ c.in-At.is)
+
+pub returns-in-None : goal.returns-in-None
+returns-in-None c =
+    let ws = c.args.first.now in
+    let vs = c.args.second.now in
+    let none = sym c.both_fault.ensures ∙ c.in-None.is in
+    let size = relisted-size ws (accepted-in ws c.requires.0.0) (pooled_pairs ws vs) in
+    pool-done ws vs c.args.answer.now c.requires.0.0 c.requires.1.0 none _ _
+    (omega (arith, size, c.pair_place-places.ensures, c.count_pooled-count.ensures.0, c.need_count-needs.ensures))
+    c.put_pooled.ensures

@@ -1,0 +1,28 @@
+-- The pairs that are met are stored by the walk; the words that it lends back are copied after them, up to where the end word goes.
+use Rattle.std.proofs.Common.{arith}
+use Rattle.pooling.proofs.PutLaws.{front-needs, mergeable, unread-words, rest-size, rest_put}
+use Rattle.pooling.proofs.put_pairs.Goals as goal
+
+pub pair_place-requires : goal.pair_place-requires
+pair_place-requires c = (omega (arith, front-needs c.requires), omega arith)
+
+pub merge-rest-requires : goal.merge-rest-requires
+merge-rest-requires c = mergeable c.requires c.pair_place.ensures
+
+pub pair_place-end-requires : goal.pair_place-end-requires
+pair_place-end-requires c = (omega (arith, front-needs c.requires), omega (arith, c.requires.few))
+
+pub overflow_sub-end : goal.overflow_sub-end
+overflow_sub-end c =
+    let is = unread-words c.args.first c.args.second c.merge-rest.result c.merge-rest.ensures.0 in
+    omega (arith, c.pair_place-end.ensures, rest-size c.args.answer.now c.requires is)
+
+pub copy-requires : goal.copy-requires
+copy-requires c =
+    let is = unread-words c.args.first c.args.second c.merge-rest.result c.merge-rest.ensures.0 in
+    omega (arith, c.pair_place-end.ensures, rest-size c.args.answer.now c.requires is, c.requires.places, c.merge-rest.auto.answer)
+
+pub returns : goal.returns
+returns c =
+    let is = unread-words c.args.first c.args.second c.merge-rest.result c.merge-rest.ensures.0 in
+    rest_put c.args.answer.now c.requires is _ _ c.pair_place.ensures c.pair_place-end.ensures c.merge-rest.ensures.1 c.copy.ensures
