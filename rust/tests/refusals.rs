@@ -101,7 +101,7 @@ fn meanings(text: &str, name: &str) -> Vec<(u32, String)> {
 fn the_words_of_the_programs() {
     let file = Path::new(env!("CARGO_MANIFEST_DIR")).join("../crates/refusal_text/specs/RefusalText.antt");
     let text = std::fs::read_to_string(file).expect("the definition of the lines of a refusal");
-    let rows: Vec<_> = ["listMeanings", "pairMeanings", "callMeanings"].iter().flat_map(|name| meanings(&text, name)).collect();
+    let rows: Vec<_> = ["list_meanings", "pair_meanings", "call_meanings"].iter().flat_map(|name| meanings(&text, name)).collect();
     assert_eq!(rows.len(), 15, "{rows:?}");
     for (number, words) in rows.into_iter().filter(|(number, _)| (3..31).contains(number)) {
         assert_eq!(Refusal { number, place: 0 }.meaning(), words);

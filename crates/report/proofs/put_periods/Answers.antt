@@ -1,7 +1,6 @@
 -- `put_periods`: four names with their numbers make line one.
 use Rattle.text_pieces.proofs.PutLaws.{put_then}
 use Rattle.report.specs.Report.{periods_line}
-use borrow.Author.Rules.{rules}
 use Rattle.report.proofs.put_periods.Goals as goal
 
 pub returns : goal.returns

@@ -1,6 +1,5 @@
 -- `put_register`: a register, its free timing and its two-timing value make a line.
 use Rattle.text_pieces.proofs.PutLaws.{put_then}
-use borrow.Author.Rules.{rules}
 use Rattle.report.proofs.put_register.Goals as goal
 
 pub returns : goal.returns

@@ -1,10 +1,8 @@
 -- `put_registers`: a line for each register.
 -- Invariant `Listing`: the lines of the first r registers are stored. What falls: n - r.
 use Prim.Native.Nat.{◌-◌}
-use native.Mathlib.Omega.{arith}
-use Rattle.text_pieces.proofs.PutLaws.{Listing, listing_start, listing-room, listing-turn, listing-end, put-size}
-use Rattle.report.specs.Report.{register_width, plan_line, register_lines}
-use borrow.Author.Rules.{rules}
+use Rattle.text_pieces.proofs.PutLaws.{Listing}
+use Rattle.report.specs.Report.{register_width, plan_line}
 use Rattle.report.proofs.put_registers.Given as goal
 
 abbrev pub invariant-loop-r : goal.invariant-loop-r

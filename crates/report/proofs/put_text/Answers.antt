@@ -5,7 +5,6 @@ use native.Mathlib.Omega.{arith}
 use lib.ListN.{length}
 use Rattle.timing.specs.Limits.{max_registers}
 use Rattle.report.proofs.ReportLaws.{text-refused, planned-in, text-planned}
-use borrow.Author.Rules.{rules}
 use Rattle.report.proofs.put_text.Goals as goal
 
 pub bounds-words-0 : goal.bounds-words-0

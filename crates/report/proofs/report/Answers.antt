@@ -1,7 +1,6 @@
 -- `report`: the words of the bytes (`load`), and then the text of their plan.
-use Rattle.list_bytes.proofs.LoadLaws.{loaded-fits, loaded-front, loaded-size}
+use Rattle.list_bytes.proofs.LoadLaws.{loaded-front}
 use Rattle.report.specs.Report.{report}
-use borrow.Author.Rules.{rules}
 use Rattle.report.proofs.report.Goals as goal
 
 pub returns : goal.returns

@@ -1,9 +1,5 @@
 -- `put_blocked`: the register, and then both chains.
-use mathlib.Core.Path.{sym}
-use native.Mathlib.Omega.{arith}
-use lib.Seq.{length-take-le}
-use Rattle.why_text.proofs.StepLaws.{second-in, second-few, blocked-put}
-use borrow.Author.Rules.{rules}
+use Rattle.why_text.proofs.StepLaws.{blocked-put}
 use Rattle.why_text.proofs.put_blocked.Goals as goal
 
 pub returns : goal.returns

@@ -1,6 +1,5 @@
 -- `put_chain`: where the chain leads, and then its steps.
 use Rattle.text_pieces.proofs.PutLaws.{put_then}
-use borrow.Author.Rules.{rules}
 use Rattle.why_text.proofs.put_chain.Goals as goal
 
 pub returns : goal.returns

@@ -3,7 +3,6 @@ use native.Mathlib.Omega.{arith}
 use borrow.Author.Tests.{eq-eqb, ne_eqb}
 use Rattle.text_pieces.proofs.PutLaws.{put-within}
 use Rattle.why_text.specs.WhyText.{choice_words}
-use borrow.Author.Rules.{rules}
 use Rattle.why_text.proofs.put_choice.Goals as goal
 
 pub returns-then-mark-eq-LATE : goal.returns-then-mark-eq-LATE

@@ -1,6 +1,5 @@
 -- `put_choices`: the launch, the capture, and the rule, by whether setup is met.
 use Rattle.text_pieces.proofs.PutLaws.{put_then}
-use borrow.Author.Rules.{rules}
 use Rattle.why_text.proofs.put_choices.Goals as goal
 
 pub returns : goal.returns

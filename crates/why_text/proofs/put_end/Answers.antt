@@ -1,6 +1,5 @@
 -- `put_end`: the name and the register, and then the choice.
 use Rattle.text_pieces.proofs.PutLaws.{put_then}
-use borrow.Author.Rules.{rules}
 use Rattle.why_text.proofs.put_end.Goals as goal
 
 pub returns : goal.returns

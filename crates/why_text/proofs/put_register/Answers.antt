@@ -1,6 +1,5 @@
 -- `put_register`: the register after its name, and the rest of the line.
 use Rattle.text_pieces.proofs.PutLaws.{put_then}
-use borrow.Author.Rules.{rules}
 use Rattle.why_text.proofs.put_register.Goals as goal
 
 pub returns : goal.returns

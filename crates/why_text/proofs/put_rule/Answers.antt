@@ -2,7 +2,6 @@
 use native.Mathlib.Omega.{arith}
 use Rattle.text_pieces.proofs.PutLaws.{put-within}
 use Rattle.why_text.specs.WhyText.{rule_words}
-use borrow.Author.Rules.{rules}
 use Rattle.why_text.proofs.put_rule.Goals as goal
 
 pub returns-then-met : goal.returns-then-met

@@ -1,6 +1,5 @@
 -- `put_short`: a name and its number, in fewer bytes than any number may take.
 use Rattle.why_text.proofs.StepLaws.{put-short}
-use borrow.Author.Rules.{rules}
 use Rattle.why_text.proofs.put_short.Goals as goal
 
 pub returns : goal.returns

@@ -1,7 +1,6 @@
 -- `put_step`: the number of the pair, and then its choices.
 use Rattle.text_pieces.proofs.PutLaws.{put_then}
 use Rattle.why_text.proofs.StepLaws.{step-put}
-use borrow.Author.Rules.{rules}
 use Rattle.why_text.proofs.put_step.Goals as goal
 
 pub returns : goal.returns

@@ -1,12 +1,10 @@
 -- `put_steps`: a line for each step.
 -- Invariant `Listing`: the lines of the first i steps are stored. What falls: the steps that are left.
 use Prim.Native.Nat.{◌-◌}
-use native.Mathlib.Omega.{arith}
 use lib.ListN.{length, get_or}
 use Rattle.list_format.specs.Lists.{pairs}
-use Rattle.text_pieces.proofs.PutLaws.{Listing, listing_start, listing-room, listing-turn, listing-end, put-size}
-use Rattle.why_text.specs.WhyText.{step_width, step_line, chain_lines}
-use borrow.Author.Rules.{rules}
+use Rattle.text_pieces.proofs.PutLaws.{Listing}
+use Rattle.why_text.specs.WhyText.{step_width, step_line}
 use Rattle.why_text.proofs.put_steps.Given as goal
 
 abbrev pub invariant-loop-i : goal.invariant-loop-i

@@ -1,6 +1,5 @@
 -- `put_way`: from late to early, and from early to late.
 use Rattle.why_text.specs.WhyText.{way_words}
-use borrow.Author.Rules.{rules}
 use Rattle.why_text.proofs.put_way.Goals as goal
 
 pub returns-then-late : goal.returns-then-late
