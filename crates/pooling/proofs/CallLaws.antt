@@ -20,8 +20,9 @@ use Rattle.refusals.proofs.ReplyLaws.{first-refused, then-refused, then-done}
 use Rattle.list_format.specs.Lists.{registers, pair_count, written_at, list_checks, verdict, IsAccepted}
 use Rattle.list_format.specs.declared.Verdict.TheVariants.{Refused}
 use Rattle.list_format.proofs.ListLaws.{same, no_difference, refused→fault, accepted→none, accepted-in, list-in, list-ascends}
-use Rattle.relist.specs.Relist.{written_pairs, relisted}
-use Rattle.relist.proofs.StrungLaws.{no_pair, written-length, written_is}
+use Rattle.converter.specs.Convert.{written_pairs}
+use Rattle.relist.specs.Relist.{relisted}
+use Rattle.converter.proofs.StrungLaws.{no_pair, written-length, written-at}
 use Rattle.relist.proofs.RelistLaws.{relisted-same}
 use Rattle.merging.specs.Merge.{pooled_pairs}
 use Rattle.pooling.specs.Pool.{pooled, same_needs, both_checks, pooling, no_fault, refused_list, of_list, pool_reply, StandsFor, PooledAs}
@@ -149,7 +150,7 @@ pool-itself ws a room h =
     let none = (accepted→none ws a).none in
     let l = list-in ws none in
     let rise : Ascends (λ k. get_or (written_pairs ws) k no_pair) (length (written_pairs ws)) = rw (written-length ws)
-    (ascends_same (λ k. get_or (written_pairs ws) k no_pair) (written_at ws) (pair_count ws) (written_is ws no_pair) (list-ascends ws none)) in
+    (ascends_same (λ k. get_or (written_pairs ws) k no_pair) (written_at ws) (pair_count ws) (written-at ws no_pair) (list-ascends ws none)) in
     let pairs = pairs-itself ws l (ascending-list (written_pairs ws) no_pair rise) in
     let kept : pooled ws ws ≡ ws = ap (relisted ws) pairs ∙ relisted-same ws l in
     let passes : BothPassed ws ws room = record {

@@ -15,7 +15,7 @@ use Rattle.words.specs.Word.{register_bits}
 use Rattle.list_format.specs.Lists.{pair_count, need_words, written_at, PairIn, IsWritten}
 use Rattle.list_format.proofs.ListLaws.{accepted-in, accepted-usable}
 use Rattle.list_format.proofs.NeedsLaws.{needs-few}
-use Rattle.relist.specs.Relist.{written_from}
+use Rattle.converter.specs.Convert.{written_from}
 use Rattle.merging.specs.Merge.{pooled_pairs, met_pairs}
 use Rattle.merging.specs.Turn.{lower_of, place_past}
 use Rattle.merging.proofs.MergeLaws.{Walkable, Walked, walked_start, walked-turn, met-turn, turn-falls}

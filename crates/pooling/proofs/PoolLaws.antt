@@ -25,7 +25,7 @@ use Rattle.list_format.proofs.ListLaws.{ListIn}
 use Rattle.free_laws.specs.Constraint.{Meets, setup, hold}
 use Rattle.free_laws.proofs.ConstraintList.{each-rule, each-pair, admissible→meets, meets→admissible}
 use Rattle.same_answers.proofs.JoinsLaws.{meets-joins, rival-joins, over-joins}
-use Rattle.relist.specs.Relist.{written_pairs}
+use Rattle.converter.specs.Convert.{written_pairs}
 use Rattle.relist.proofs.RelistLaws.{counted-joins, Own, own-whole, written-own, each-counted, counted-each}
 use Rattle.relist.proofs.RelistLaws.{relisted-accepted, relisted-registers, relisted-needs, each-relisted, relisted-each}
 use Rattle.merging.specs.Merge.{pooled_pairs}

@@ -17,7 +17,8 @@ use Rattle.list_format.specs.Lists.{pair_count, place_by}
 use Rattle.list_format.specs.Write.{three_of}
 use Rattle.list_format.proofs.NeedsLaws.{needs-few}
 use Rattle.list_format.proofs.ListLaws.{accepted-in}
-use Rattle.relist.specs.Relist.{strung, put_at}
+use Rattle.converter.specs.Convert.{strung}
+use Rattle.converter.specs.Marks.{put_at}
 use Rattle.merging.specs.Merge.{pooled_pairs, met_of, all_met, words_from, IsUnread, Mergeable}
 use Rattle.merging.proofs.MergingLaws.{accepted-walkable, threes-length}
 use Rattle.merging.proofs.RestLaws.{rest-words, pooled-words}

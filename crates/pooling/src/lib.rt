@@ -8,7 +8,8 @@ ghost use Rattle.words.specs.Word.{count_bits};
 ghost use Rattle.refusals.specs.Checks.{first_fault};
 ghost use Rattle.list_format.specs.Lists.{registers, need_words, hold_at, setup_at, IsAccepted};
 ghost use Rattle.list_format.specs.Write.{three_of};
-ghost use Rattle.relist.specs.Relist.{strung, put_at};
+ghost use Rattle.converter.specs.Convert.{strung};
+ghost use Rattle.converter.specs.Marks.{put_at};
 ghost use Rattle.merging.specs.Merge.{pooled_pairs};
 ghost use Rattle.pooling.specs.Pool.{pooled, same_needs, both_checks, Listed, BothIn, PoolRoom, PooledAs};
 

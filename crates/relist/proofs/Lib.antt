@@ -1,3 +1,2 @@
 -- The laws, which other crates may cite too.
-pub mod StrungLaws
 pub mod RelistLaws

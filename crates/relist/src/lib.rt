@@ -1,5 +1,5 @@
 // A list anew: the registers and the needs of a list, with other pairs.
-// The contracts cite `specs/Relist.antt`.
+// The contracts cite `converter`; `specs/Relist.antt` has the list that is made.
 #![tactic(auto)]
 
 ghost use Rattle.std.specs.Prelude.{◌≡◌, ◌∷◌, ◌++◌, ◌+◌, ◌^◌, ◌<◌, ◌≤◌, length, take};
@@ -7,7 +7,7 @@ ghost use Rattle.buffers.specs.Over.{over};
 ghost use Rattle.ordering.specs.Order.{joined};
 ghost use Rattle.words.specs.Word.{count_bits, register_bits, head_word};
 ghost use Rattle.list_format.specs.Lists.{pair_count, IsAccepted};
-ghost use Rattle.relist.specs.Relist.{block};
+ghost use Rattle.converter.specs.Marks.{block};
 
 use timing::Pair;
 
