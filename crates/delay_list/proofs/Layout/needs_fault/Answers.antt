@@ -2,7 +2,7 @@
 -- Invariant `Remaining`: what is left of the checks decides as the whole does.
 use Rattle.std.proofs.Common.{arith, rules}
 use Rattle.refusals.proofs.CheckLaws.{remaining-turn, remaining-stops, remaining-end}
-use Rattle.delay_list.proofs.needs_fault.Goals as goal
+use Rattle.delay_list.proofs.Layout.needs_fault.Goals as goal
 
 pub returns-in_err-need_fault : goal.returns-in_err-need_fault
 returns-in_err-need_fault c =
