@@ -7,7 +7,7 @@ use native.Mathlib.Nat.{sub-zero}
 use native.Mathlib.Omega.{arith}
 use lib.ListN.{length}
 use Rattle.timing.specs.declared.Pair.{Pair}
-use Rattle.list_format.specs.Lists.{registers, pair_count, pair_at, pairs_from, pairs, IsPair, UsableList}
+use Rattle.list_format.specs.Lists.{registers, pair_count, pair_at, pairs_from, pairs, IsPair}
 use Rattle.list_format.proofs.ListLaws.{pairs-in-range, still-usable}
 use Rattle.free_laws.specs.Free.{common}
 use Rattle.free_laws.proofs.FreeLaws.{common-pos}

@@ -27,7 +27,6 @@ use Rattle.checker.specs.Check.{Passes}
 use Rattle.checker.proofs.CheckLaws.{admissible-passes, passes-as}
 use Rattle.free_climb.specs.Climbed.{Climbed}
 use Rattle.free_schedule.specs.FreeCall.{freeing, Freed, free_reply, FreeAs, Roomy, FreeIn}
-use Rattle.free_schedule.specs.declared.Periods.{Periods}
 
 -- ---- the free schedule, brought to a check at the free period
 
