@@ -27,7 +27,7 @@ use Rattle.free_laws.proofs.Rounds.{rounds-start, rounds-turn, rounds-end}
 use Rattle.free_laws.proofs.FreeLaws.{least-capped, common-limit}
 use Rattle.free_laws.proofs.Bound.{bound-common, bound-next}
 use Rattle.free_rounds.specs.Raise.{Raising}
-use Rattle.free_trials.specs.Trial.{Trial, Judged, Tried, Sought, Rounded}
+use Rattle.free_trials.specs.Trial.{Trial, Judged, Tried, Sought, Trying}
 
 -- ---- registers at 0
 
@@ -62,8 +62,8 @@ pub record Under (ws : List ℕ) (t : ℕ) (x : List ℕ) : Type 0 where
 pub under-turn : {ws : List ℕ} {t : ℕ} {x y : List ℕ} → Under ws t x → Risen max_timing (constraints t (pairs ws)) x y → Under ws t y
 under-turn u o = record { size = o.size ∙ u.size; capped = o.capped; low = λ f m. o.low f m (u.low f m) }
 
-pub rounded-under : {ws : List ℕ} {t : ℕ} {x : List ℕ} {k : ℕ} → Rounded ws t x k → Under ws t x
-rounded-under s = record { size = s.rounds.size; capped = s.capped; low = s.rounds.low }
+pub trying-under : {ws : List ℕ} {t : ℕ} {x : List ℕ} {k : ℕ} → Trying ws t x k → Under ws t x
+trying-under s = record { size = s.rounds.size; capped = s.capped; low = s.rounds.low }
 
 module _ {ws : List ℕ} {count t : ℕ} {x₀ : List ℕ} (p : Trial ws count t x₀) where
   inside : Each (InRange (registers ws)) (pairs ws)
@@ -106,17 +106,17 @@ module _ {ws : List ℕ} {count t : ℕ} {x₀ : List ℕ} (p : Trial ws count t
 
   -- ---- rounds over all pairs
 
-  pub rounded_start : {x : List ℕ} → x ≡ zeros (length x₀) → Rounded ws t x 0
-  rounded_start e =
+  pub trying_start : {x : List ℕ} → x ≡ zeros (length x₀) → Trying ws t x 0
+  trying_start e =
       rw (e, p.list.registers_are)
       (record {
         rounds = rounds-start (registers ws) (constraints t (pairs ws)) (within (registers ws) t (pairs ws) inside) max_timing;
         capped = zeros-below (registers ws) (λ r. max_timing);
       })
 
-  module _ {x : List ℕ} {k : ℕ} (s : Rounded ws t x k) where
-    pub rounded-turn : {y : List ℕ} → RoundTo max_timing (constraints t (pairs ws)) x y → Rounded ws t y (k + 1)
-    rounded-turn o =
+  module _ {x : List ℕ} {k : ℕ} (s : Trying ws t x k) where
+    pub trying-turn : {y : List ℕ} → RoundTo max_timing (constraints t (pairs ws)) x y → Trying ws t y (k + 1)
+    trying-turn o =
         record {
           rounds = rw add-one (rounds-turn (registers ws) (constraints t (pairs ws)) (within (registers ws) t (pairs ws) inside) s.rounds o.round);
           capped = o.capped;
@@ -124,13 +124,13 @@ module _ {ws : List ℕ} {count t : ℕ} {x₀ : List ℕ} (p : Trial ws count t
 
     -- as many rounds as registers
     module _ (all : length x ≤ k) where
-      pub rounded-passed : admissible t (pairs ws) x ≡ true → Tried ws t x t
-      rounded-passed e = under-told (rounded-under s) (record { onward = le_refl t; bound = p.bound; shows = λ q. e })
+      pub trying-passed : admissible t (pairs ws) x ≡ true → Tried ws t x t
+      trying-passed e = under-told (trying-under s) (record { onward = le_refl t; bound = p.bound; shows = λ q. e })
 
       -- not admissible: no schedule at t. Times that met the rules would give a least schedule, which is within the limit of a
       -- timing (`least-capped`); so many rounds would have come to it (`rounds-end`), and it is admissible
-      pub rounded-failed : admissible t (pairs ws) x ≡ false → Tried ws t x (t + 1)
-      rounded-failed e = record { onward = omega arith; bound = bound-next p.bound none; shows = λ q. absurd (omega arith) }
+      pub trying-failed : admissible t (pairs ws) x ≡ false → Tried ws t x (t + 1)
+      trying-failed e = record { onward = omega arith; bound = bound-next p.bound none; shows = λ q. absurd (omega arith) }
         where
           none : (g : ℕ → ℕ) → Each (Meets g) (constraints t (pairs ws)) → ⊥
           none g m =

@@ -30,6 +30,6 @@ abbrev pub Sought : List ℕ → ℕ → List ℕ → Option ℕ → Type 0
 Sought ws t x o = IfSome o (Tried ws t x)
 
 -- x after k rounds of a trial of t, which have told nothing
-pub record Rounded (ws : List ℕ) (t : ℕ) (x : List ℕ) (k : ℕ) : Type 0 where
+pub record Trying (ws : List ℕ) (t : ℕ) (x : List ℕ) (k : ℕ) : Type 0 where
   pub rounds : Rounds max_timing (registers ws) (constraints t (pairs ws)) x k
   pub capped : Capped max_timing x

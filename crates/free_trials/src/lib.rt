@@ -9,7 +9,7 @@ ghost use Rattle.list_format.specs.Lists.{pairs, UsableList};
 ghost use Rattle.free_laws.specs.Constraint.{constraints, Bound};
 ghost use Rattle.free_laws.specs.Raise.{Risen};
 ghost use Rattle.free_rounds.specs.Raise.{Raising};
-ghost use Rattle.free_trials.specs.Trial.{Trial, Judged, Tried, Sought, Rounded};
+ghost use Rattle.free_trials.specs.Trial.{Trial, Judged, Tried, Sought, Trying};
 
 use free_rounds::{NO_RULE, PARENTS};
 use pair_ends::Ends;
@@ -69,7 +69,7 @@ pub fn plain(
 ) -> Option<u32>
     requires { Trial words.now count period x.old }
     ensures sought { Sought words.now period x.new result }
-    ensures rounded { IfNone result (Rounded words.now period x.new most) }
+    ensures trying { IfNone result (Trying words.now period x.new most) }
 {
     clear(x);
     for done in 0..most {
