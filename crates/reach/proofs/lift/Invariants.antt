@@ -1,12 +1,7 @@
 -- `lift`: every register raised to a period below which no split works; each is a reach (`lifted`).
--- Invariant `Reaching`. What falls: the registers from r on.
-use Prim.Native.Nat.{◌-◌}
-use lib.ListN.{length}
+-- Invariant `Reaching`.
 use Rattle.reach.specs.Settling.{Reaching}
 use Rattle.reach.proofs.lift.Given as goal
 
 abbrev pub invariant-loop-r : goal.invariant-loop-r
 invariant-loop-r l = Reaching l.words l.count l.top l.reach
-
-abbrev pub decreases-loop-r : goal.decreases-loop-r
-decreases-loop-r l = length l.reach - l.r

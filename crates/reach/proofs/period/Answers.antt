@@ -1,7 +1,8 @@
 -- `period`: the longest period that a pair asks for, or 1.
--- Invariant `Asked`: that of the first k pairs, with the pairs from k on, gives the period. What falls: count - k.
+-- Invariant `Asked`: that of the first k pairs, with the pairs from k on, gives the period.
 use native.Mathlib.Omega.{arith}
 use Rattle.reach.proofs.SweepLaws.{asked-start, asked-turn, asked-end}
+use borrow.Author.Rules.{rules}
 use Rattle.reach.proofs.period.Goals as goal
 
 pub loop-k-init : goal.loop-k-init
@@ -10,7 +11,7 @@ loop-k-init c = asked-start
 pub loop-k-preserved : goal.loop-k-preserved
 loop-k-preserved c =
     asked-turn c.loop-k.invariant (omega (arith, c.requires.pairs_are)) c.pair_at-p.ensures
-    c.asked.ensures c.larger-most.ensures
+    c.asked.ensures (search rules)
 
 pub returns : goal.returns
 returns c = asked-end c.loop-k.invariant (omega (arith, c.requires.pairs_are))

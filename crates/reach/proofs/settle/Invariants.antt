@@ -4,8 +4,8 @@ use Rattle.plan_laws.specs.Reach.{room}
 use Rattle.reach.specs.Settling.{Reaching}
 use Rattle.reach.proofs.settle.Given as goal
 
-abbrev pub invariant-loop-count : goal.invariant-loop-count
-invariant-loop-count l = Reaching l.words l.count l.top l.reach
+abbrev pub invariant-loop-down : goal.invariant-loop-down
+invariant-loop-down l = Reaching l.words l.count l.top l.reach
 
-abbrev pub decreases-loop-count : goal.decreases-loop-count
-decreases-loop-count l = room l.top l.reach
+abbrev pub decreases-loop-down : goal.decreases-loop-down
+decreases-loop-down l = room l.top l.reach

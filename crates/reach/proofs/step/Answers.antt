@@ -1,4 +1,5 @@
 -- `step`: both ends of pair k raised, the capture first; where neither rose, the pair raises nothing further (`pair-stepped`).
+use mathlib.Core.Path.{refl}
 use native.Mathlib.Omega.{arith}
 use Rattle.reach.proofs.SweepLaws.{pair-raisable, pair-stepped, raisable-kept}
 use Rattle.reach.proofs.step.Goals as goal
@@ -14,4 +15,4 @@ raise_launch-second-requires c =
 pub returns : goal.returns
 returns c =
     pair-stepped c.requires.0 c.pair_at-p.ensures (omega (arith, c.requires.0.list.pairs_are)) c.raise_capture-first.ensures
-    c.raise_launch-second.ensures c.either.ensures
+    c.raise_launch-second.ensures refl

@@ -1,5 +1,5 @@
 -- `sweep`: every pair once; where no reach rose, no pair raises one further.
--- Invariant `Sweeping`: the same of the pairs at the first i places. What falls: count - i.
+-- Invariant `Sweeping`: the same of the pairs at the first i places.
 use Rattle.reach.proofs.SweepLaws.{sweeping-end}
 use Rattle.reach.proofs.sweep.Goals as goal
 

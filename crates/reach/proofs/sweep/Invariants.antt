@@ -1,11 +1,7 @@
 -- `sweep`: every pair once; where no reach rose, no pair raises one further.
--- Invariant `Sweeping`: the same of the pairs at the first i places. What falls: count - i.
-use Prim.Native.Nat.{◌-◌}
+-- Invariant `Sweeping`: the same of the pairs at the first i places.
 use Rattle.reach.proofs.SweepLaws.{Sweeping}
 use Rattle.reach.proofs.sweep.Given as goal
 
 abbrev pub invariant-loop-i : goal.invariant-loop-i
 invariant-loop-i l = Sweeping l.words l.count l.top l.down l.initial.reach l.reach l.moved l.i
-
-abbrev pub decreases-loop-i : goal.decreases-loop-i
-decreases-loop-i l = l.count - l.i
