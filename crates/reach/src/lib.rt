@@ -11,7 +11,7 @@ ghost use Rattle.split_laws.specs.Split.{time_of, timings};
 ghost use Rattle.plan_laws.specs.Reach.{reach_of, ahead, behind, reach_period, late_above, NoneBelow, Raised, ReachStep};
 ghost use Rattle.reach.specs.Settling.{PairReaching, Reaching, Guided, ClosedAt, ClosedAll, Swept, Reached};
 
-use pair_ends::REGISTERS;
+use pair_ends::Ends;
 use register_heap::Heap;
 use timing::Pair;
 
@@ -46,42 +46,6 @@ fn raise_launch(p: Pair, top: u32, reach: &mut [u32]) -> bool
     raise(reach, p.launch as usize, v)
 }
 
-// Both ends of pair k; whether one was raised.
-fn step(words: &[u32], count: usize, k: usize, top: u32, reach: &mut [u32]) -> bool
-    requires { Reaching words.now count top reach.old × (k < count) }
-    ensures { ReachStep top (pairs words.now) (ClosedAt words.now top k) reach.old reach.new result }
-{
-    let p = delay_list::pair_at(words, k);
-    let first = raise_capture(p, top, reach);
-    let second = raise_launch(p, top, reach);
-    first | second
-}
-
-// One sweep, up or down the list; whether it raised anything.
-fn sweep(words: &[u32], count: usize, top: u32, down: bool, reach: &mut [u32]) -> bool
-    requires { Reaching words.now count top reach.old }
-    ensures { ReachStep top (pairs words.now) (ClosedAll words.now top) reach.old reach.new result }
-{
-    let mut moved = false;
-    for i in 0..count {
-        let k = delay_list::place(count, i, down);
-        let o = step(words, count, k, top, reach);
-        moved |= o;
-    }
-    moved
-}
-
-// Sweeps up and down the list until nothing is raised.
-fn settle(words: &[u32], count: usize, top: u32, reach: &mut [u32])
-    requires { Reaching words.now count top reach.old }
-    ensures { Swept words.now count top reach.new }
-{
-    let mut down = false;
-    while sweep(words, count, top, down, reach) {
-        down = !down;
-    }
-}
-
 // The period below which a pair lets no split work.
 fn asked(p: Pair, reach: &[u32]) -> u32
     requires { p.launch < length reach.now }
@@ -90,32 +54,6 @@ fn asked(p: Pair, reach: &[u32]) -> u32
     reach[p.launch as usize].min(p.greatest)
 }
 
-// The longest such period, or 1.
-fn period(words: &[u32], count: usize, reach: &[u32]) -> u32
-    requires { UsableList words.now (length reach.now) count }
-    ensures { result ≡ reach_period 1 (pairs words.now) reach.now }
-{
-    let mut most = 1;
-    for k in 0..count {
-        let p = delay_list::pair_at(words, k);
-        most = most.max(asked(p, reach));
-    }
-    most
-}
-
-// Every register has at least the reach v, below which no split works.
-fn lift(words: &[u32], count: usize, top: u32, v: u32, reach: &mut [u32])
-    requires { Reaching words.now count top reach.old × NoneBelow top (pairs words.now) v }
-    ensures { Reaching words.now count top reach.new }
-{
-    for r in 0..reach.len() {
-        raise(reach, r, v);
-    }
-}
-
-// The guide raises reaches in the order of a heap, the largest first. Its order is a hint, by which the sweeps find nothing left
-// to raise; each stays a reach.
-
 // What came of a raise along a pair: the register that was raised, if it was, and the period that the pair asks for.
 #[derive(Clone, Copy)]
 struct Along {
@@ -123,39 +61,111 @@ struct Along {
     asks: u32,
 }
 
-// From an end of pair k the register at the other end is raised.
-fn cross(words: &[u32], count: usize, k: usize, launch: bool, top: u32, reach: &mut [u32]) -> Along
-    requires { Reaching words.now count top reach.old × (k < count) }
-    ensures { Guided words.now count top reach.new result.asks }
-{
-    let p = delay_list::pair_at(words, k);
-    if launch {
-        let raised = raise_capture(p, top, reach);
-        let asks = asked(p, reach);
-        return Along {
-            raised: raised.then_some(p.capture as usize),
-            asks: asks,
-        };
+// A usable list with its count of pairs and its common period.
+#[derive(Clone, Copy)]
+struct Listed<'a> {
+    words: &'a [u32],
+    count: usize,
+    top: u32,
+}
+
+impl<'a> Listed<'a> {
+    // Both ends of pair k; whether one was raised.
+    fn step(self, k: usize, reach: &mut [u32]) -> bool
+        requires { Reaching self.words.now self.count self.top reach.old × (k < self.count) }
+        ensures { ReachStep self.top (pairs self.words.now) (ClosedAt self.words.now self.top k) reach.old reach.new result }
+    {
+        let p = delay_list::pair_at(self.words, k);
+        let first = raise_capture(p, self.top, reach);
+        let second = raise_launch(p, self.top, reach);
+        first | second
     }
-    let raised = raise_launch(p, top, reach);
-    Along {
-        raised: raised.then_some(p.launch as usize),
-        asks: 0,
+
+    // One sweep, up or down the list; whether it raised anything.
+    fn sweep(self, down: bool, reach: &mut [u32]) -> bool
+        requires { Reaching self.words.now self.count self.top reach.old }
+        ensures { ReachStep self.top (pairs self.words.now) (ClosedAll self.words.now self.top) reach.old reach.new result }
+    {
+        let mut moved = false;
+        for i in 0..self.count {
+            let k = delay_list::place(self.count, i, down);
+            let o = self.step(k, reach);
+            moved |= o;
+        }
+        moved
+    }
+
+    // Sweeps up and down the list until nothing is raised.
+    fn settle(self, reach: &mut [u32])
+        requires { Reaching self.words.now self.count self.top reach.old }
+        ensures { Swept self.words.now self.count self.top reach.new }
+    {
+        let mut down = false;
+        while self.sweep(down, reach) {
+            down = !down;
+        }
+    }
+
+    // The longest period that a pair asks for, or 1.
+    fn period(self, reach: &[u32]) -> u32
+        requires { UsableList self.words.now (length reach.now) self.count }
+        ensures { result ≡ reach_period 1 (pairs self.words.now) reach.now }
+    {
+        let mut most = 1;
+        for k in 0..self.count {
+            let p = delay_list::pair_at(self.words, k);
+            most = most.max(asked(p, reach));
+        }
+        most
+    }
+
+    // Every register has at least the reach v, below which no split works.
+    fn lift(self, v: u32, reach: &mut [u32])
+        requires { Reaching self.words.now self.count self.top reach.old × NoneBelow self.top (pairs self.words.now) v }
+        ensures { Reaching self.words.now self.count self.top reach.new }
+    {
+        for r in 0..reach.len() {
+            raise(reach, r, v);
+        }
+    }
+
+    // From an end of pair k the register at the other end is raised.
+    fn cross(self, k: usize, launch: bool, reach: &mut [u32]) -> Along
+        requires { Reaching self.words.now self.count self.top reach.old × (k < self.count) }
+        ensures { Guided self.words.now self.count self.top reach.new result.asks }
+    {
+        let p = delay_list::pair_at(self.words, k);
+        if launch {
+            let raised = raise_capture(p, self.top, reach);
+            let asks = asked(p, reach);
+            return Along {
+                raised: raised.then_some(p.capture as usize),
+                asks,
+            };
+        }
+        let raised = raise_launch(p, self.top, reach);
+        Along {
+            raised: raised.then_some(p.launch as usize),
+            asks: 0,
+        }
+    }
+
+    // Every capture is raised; the longest period that a pair was seen to ask for.
+    fn begin(self, reach: &mut [u32]) -> u32
+        requires { Reaching self.words.now self.count self.top reach.old }
+        ensures { Guided self.words.now self.count self.top reach.new result }
+    {
+        let mut most = 0;
+        for k in 0..self.count {
+            let a = self.cross(k, true, reach);
+            most = most.max(a.asks);
+        }
+        most
     }
 }
 
-// Every capture is raised; the longest period that a pair was seen to ask for.
-fn begin(words: &[u32], count: usize, top: u32, reach: &mut [u32]) -> u32
-    requires { Reaching words.now count top reach.old }
-    ensures { Guided words.now count top reach.new result }
-{
-    let mut most = 0;
-    for k in 0..count {
-        let a = cross(words, count, k, true, top, reach);
-        most = most.max(a.asks);
-    }
-    most
-}
+// The guide raises reaches in the order of a heap, the largest first. Its order is a hint, by which the sweeps find nothing left
+// to raise; each stays a reach.
 
 // The longest period that a pair was seen to ask for, and the registers that wait to be visited.
 #[derive(Drop)]
@@ -194,28 +204,17 @@ impl Waiting {
     }
 
     // Along the ends at register r, from each to the register across.
-    fn visit(
-        &mut self,
-        words: &[u32],
-        count: usize,
-        top: u32,
-        r: usize,
-        lasts: &[u16; REGISTERS],
-        before: &[u16],
-        reach: &mut [u32],
-    )
-        requires { Guided words.now count top reach.old self.old.most }
-        ensures { Guided words.now count top reach.new self.new.most }
+    fn visit(&mut self, list: Listed, ends: Ends, r: usize, reach: &mut [u32])
+        requires { Guided list.words.now list.count list.top reach.old self.old.most }
+        ensures { Guided list.words.now list.count list.top reach.new self.new.most }
     {
-        let mut end = pair_ends::last_at(lasts, r);
-        while end > 0 {
-            let k = (end - 1) / 2;
-            if k >= count {
+        for end in ends.at(r) {
+            let k = usize::from(end) / 2;
+            if k >= list.count {
                 return;
             }
-            let a = cross(words, count, k, end % 2 == 1, top, reach);
+            let a = list.cross(k, end % 2 == 0, reach);
             self.enter(a, reach);
-            end = pair_ends::end_before(before, end);
         }
     }
 
@@ -229,24 +228,16 @@ impl Waiting {
     }
 
     // Registers are taken from the heap and visited, each once: no raise is to above the reach of the one that was taken.
-    fn follow(
-        &mut self,
-        words: &[u32],
-        count: usize,
-        top: u32,
-        lasts: &[u16; REGISTERS],
-        before: &[u16],
-        reach: &mut [u32],
-    )
-        requires { Guided words.now count top reach.old self.old.most }
-        ensures { Guided words.now count top reach.new self.new.most }
+    fn follow(&mut self, list: Listed, ends: Ends, reach: &mut [u32])
+        requires { Guided list.words.now list.count list.top reach.old self.old.most }
+        ensures { Guided list.words.now list.count list.top reach.new self.new.most }
     {
         for _ in 0..reach.len() {
             let Some(r) = self.largest(reach) else {
                 return;
             };
             self.heap.remove(reach, r);
-            self.visit(words, count, top, r, lasts, before, reach);
+            self.visit(list, ends, r, reach);
         }
     }
 }
@@ -255,38 +246,30 @@ impl Waiting {
 const SPARSE: usize = 8;
 
 // The heap from its filling until nothing in it is above the period seen; none where pairs are few.
-fn guide(
-    words: &[u32],
-    count: usize,
-    top: u32,
-    reach: &mut [u32],
-    lasts: &[u16; REGISTERS],
-    before: &[u16],
-) -> u32
-    requires { Reaching words.now count top reach.old }
-    ensures { Guided words.now count top reach.new result }
+fn guide(list: Listed, ends: Ends, reach: &mut [u32]) -> u32
+    requires { Reaching list.words.now list.count list.top reach.old }
+    ensures { Guided list.words.now list.count list.top reach.new result }
 {
-    if count <= reach.len() / SPARSE {
+    if list.count <= reach.len() / SPARSE {
         return 0;
     }
     let mut waiting = Waiting {
-        most: begin(words, count, top, reach),
+        most: list.begin(reach),
         heap: Heap::empty(),
     };
     waiting.gather(reach);
-    waiting.follow(words, count, top, lasts, before, reach);
+    waiting.follow(list, ends, reach);
     waiting.most
 }
 
 // The two-timing period of a usable list with the common period `top` and a free period above `floor`; the reaches are left
-// in the n places lent. `lasts` and `before` are the ends of the pairs at each register, as a hint.
+// in the n places lent. The ends of the pairs are a hint.
 pub fn two_period(
     words: &[u32],
     count: usize,
     top: u32,
     floor: u32,
-    lasts: &[u16; REGISTERS],
-    before: &[u16],
+    ends: Ends,
     reach: &mut [u32],
 ) -> u32
     requires { UsableList words.now (length reach.old) count × (top ≡ common (pairs words.now)) × Bound (pairs words.now) (floor + 1) }
@@ -294,10 +277,11 @@ pub fn two_period(
 {
     let n = reach.len();
     buffers::level(reach, n, floor);
-    let most = guide(words, count, top, reach, lasts, before);
-    lift(words, count, top, most, reach);
-    settle(words, count, top, reach);
-    period(words, count, reach)
+    let list = Listed { words, count, top };
+    let most = guide(list, ends, reach);
+    list.lift(most, reach);
+    list.settle(reach);
+    list.period(reach)
 }
 
 // The offset where the reach is above the period, else 0.

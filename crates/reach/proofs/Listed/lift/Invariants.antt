@@ -1,7 +1,7 @@
 -- `lift`: every register raised to a period below which no split works; each is a reach (`lifted`).
 -- Invariant `Reaching`.
 use Rattle.reach.specs.Settling.{Reaching}
-use Rattle.reach.proofs.lift.Given as goal
+use Rattle.reach.proofs.Listed.lift.Given as goal
 
 abbrev pub invariant-loop-r : goal.invariant-loop-r
-invariant-loop-r l = Reaching l.words l.count l.top l.reach
+invariant-loop-r l = Reaching l.self.words l.self.count l.self.top l.reach

@@ -3,7 +3,7 @@
 use native.Mathlib.Omega.{arith}
 use Rattle.reach.proofs.SweepLaws.{asked-start, asked-turn, asked-end}
 use borrow.Author.Rules.{rules}
-use Rattle.reach.proofs.period.Goals as goal
+use Rattle.reach.proofs.Listed.period.Goals as goal
 
 pub loop-k-init : goal.loop-k-init
 loop-k-init c = asked-start

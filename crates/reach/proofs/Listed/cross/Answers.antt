@@ -2,7 +2,7 @@
 -- (`pair-ahead`, `pair-behind`), and below what the pair asks for no split works.
 use native.Mathlib.Omega.{arith}
 use Rattle.reach.proofs.SweepLaws.{guided-start, pair-raisable, pair-ahead, pair-asked, pair-behind}
-use Rattle.reach.proofs.cross.Goals as goal
+use Rattle.reach.proofs.Listed.cross.Goals as goal
 
 pub raise_capture-raised-requires : goal.raise_capture-raised-requires
 raise_capture-raised-requires c =

@@ -2,10 +2,10 @@
 -- Invariant `Reaching`: each is a reach of its register. What falls: `room`, which a sweep that raised something leaves smaller.
 use Rattle.plan_laws.specs.Reach.{room}
 use Rattle.reach.specs.Settling.{Reaching}
-use Rattle.reach.proofs.settle.Given as goal
+use Rattle.reach.proofs.Listed.settle.Given as goal
 
 abbrev pub invariant-loop-down : goal.invariant-loop-down
-invariant-loop-down l = Reaching l.words l.count l.top l.reach
+invariant-loop-down l = Reaching l.self.words l.self.count l.self.top l.reach
 
 abbrev pub decreases-loop-down : goal.decreases-loop-down
-decreases-loop-down l = room l.top l.reach
+decreases-loop-down l = room l.self.top l.reach

@@ -2,7 +2,7 @@
 use mathlib.Core.Path.{refl}
 use native.Mathlib.Omega.{arith}
 use Rattle.reach.proofs.SweepLaws.{pair-raisable, pair-stepped, raisable-kept}
-use Rattle.reach.proofs.step.Goals as goal
+use Rattle.reach.proofs.Listed.step.Goals as goal
 
 pub raise_capture-first-requires : goal.raise_capture-first-requires
 raise_capture-first-requires c =
