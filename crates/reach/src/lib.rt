@@ -73,7 +73,7 @@ impl<'a> Listed<'a> {
     // Both ends of pair k; whether one was raised.
     fn step(self, k: usize, reach: &mut [u32]) -> bool
         requires { Reaching self.words.now self.count self.top reach.old × (k < self.count) }
-        ensures { ReachStep self.top (pairs self.words.now) (ClosedAt self.words.now self.top k) reach.old reach.new result }
+        ensures { ReachStep self.entry.top (pairs self.entry.words.now) (ClosedAt self.entry.words.now self.entry.top k) reach.old reach.new result }
     {
         let p = delay_list::pair_at(self.words, k);
         let first = raise_capture(p, self.top, reach);
@@ -84,7 +84,7 @@ impl<'a> Listed<'a> {
     // One sweep, up or down the list; whether it raised anything.
     fn sweep(self, down: bool, reach: &mut [u32]) -> bool
         requires { Reaching self.words.now self.count self.top reach.old }
-        ensures { ReachStep self.top (pairs self.words.now) (ClosedAll self.words.now self.top) reach.old reach.new result }
+        ensures { ReachStep self.entry.top (pairs self.entry.words.now) (ClosedAll self.entry.words.now self.entry.top) reach.old reach.new result }
     {
         let mut moved = false;
         for i in 0..self.count {
@@ -98,7 +98,7 @@ impl<'a> Listed<'a> {
     // Sweeps up and down the list until nothing is raised.
     fn settle(self, reach: &mut [u32])
         requires { Reaching self.words.now self.count self.top reach.old }
-        ensures { Swept self.words.now self.count self.top reach.new }
+        ensures { Swept self.entry.words.now self.entry.count self.entry.top reach.new }
     {
         let mut down = false;
         while self.sweep(down, reach) {
@@ -109,7 +109,7 @@ impl<'a> Listed<'a> {
     // The longest period that a pair asks for, or 1.
     fn period(self, reach: &[u32]) -> u32
         requires { UsableList self.words.now (length reach.now) self.count }
-        ensures { result ≡ reach_period 1 (pairs self.words.now) reach.now }
+        ensures { result ≡ reach_period 1 (pairs self.entry.words.now) reach.now }
     {
         let mut most = 1;
         for k in 0..self.count {
@@ -122,7 +122,7 @@ impl<'a> Listed<'a> {
     // Every register has at least the reach v, below which no split works.
     fn lift(self, v: u32, reach: &mut [u32])
         requires { Reaching self.words.now self.count self.top reach.old × NoneBelow self.top (pairs self.words.now) v }
-        ensures { Reaching self.words.now self.count self.top reach.new }
+        ensures { Reaching self.entry.words.now self.entry.count self.entry.top reach.new }
     {
         for r in 0..reach.len() {
             raise(reach, r, v);
@@ -132,7 +132,7 @@ impl<'a> Listed<'a> {
     // From an end of pair k the register at the other end is raised.
     fn cross(self, k: usize, launch: bool, reach: &mut [u32]) -> Along
         requires { Reaching self.words.now self.count self.top reach.old × (k < self.count) }
-        ensures { Guided self.words.now self.count self.top reach.new result.asks }
+        ensures { Guided self.entry.words.now self.entry.count self.entry.top reach.new result.asks }
     {
         let p = delay_list::pair_at(self.words, k);
         if launch {
@@ -153,7 +153,7 @@ impl<'a> Listed<'a> {
     // Every capture is raised; the longest period that a pair was seen to ask for.
     fn begin(self, reach: &mut [u32]) -> u32
         requires { Reaching self.words.now self.count self.top reach.old }
-        ensures { Guided self.words.now self.count self.top reach.new result }
+        ensures { Guided self.entry.words.now self.entry.count self.entry.top reach.new result }
     {
         let mut most = 0;
         for k in 0..self.count {
@@ -206,7 +206,7 @@ impl Waiting {
     // Along the ends at register r, from each to the register across.
     fn visit(&mut self, list: Listed, ends: Ends, r: usize, reach: &mut [u32])
         requires { Guided list.words.now list.count list.top reach.old self.old.most }
-        ensures { Guided list.words.now list.count list.top reach.new self.new.most }
+        ensures { Guided list.entry.words.now list.entry.count list.entry.top reach.new self.new.most }
     {
         for end in ends.at(r) {
             let k = usize::from(end) / 2;
@@ -230,7 +230,7 @@ impl Waiting {
     // Registers are taken from the heap and visited, each once: no raise is to above the reach of the one that was taken.
     fn follow(&mut self, list: Listed, ends: Ends, reach: &mut [u32])
         requires { Guided list.words.now list.count list.top reach.old self.old.most }
-        ensures { Guided list.words.now list.count list.top reach.new self.new.most }
+        ensures { Guided list.entry.words.now list.entry.count list.entry.top reach.new self.new.most }
     {
         for _ in 0..reach.len() {
             let Some(r) = self.largest(reach) else {
@@ -248,7 +248,7 @@ const SPARSE: usize = 8;
 // The heap from its filling until nothing in it is above the period seen; none where pairs are few.
 fn guide(list: Listed, ends: Ends, reach: &mut [u32]) -> u32
     requires { Reaching list.words.now list.count list.top reach.old }
-    ensures { Guided list.words.now list.count list.top reach.new result }
+    ensures { Guided list.entry.words.now list.entry.count list.entry.top reach.new result }
 {
     if list.count <= reach.len() / SPARSE {
         return 0;
