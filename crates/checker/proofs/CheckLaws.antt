@@ -35,6 +35,7 @@ use Rattle.checker.specs.declared.Smallest.{Smallest}
 use Rattle.checker.specs.declared.Walk.{Walk}
 use Rattle.checker.specs.declared.Checking.{Checking}
 use Rattle.checker.specs.declared.Checking.TheVariants.{NoPairs, Admissible, Broken}
+use Rattle.checker.proofs.BrokenLaws.{first-is, broken-first}
 use Rattle.checker.proofs.MarginLaws.{not_negative, met-low, smallest-met, smallest-below, smallest-is, smallest-least, smallest-first}
 use Rattle.std.specs.Prelude.{Result, Ok, Err}
 use Rattle.refusals.specs.declared.Refused.{Refused}
@@ -61,22 +62,18 @@ module _ {ws : List ℕ} {t : ℕ} {s : List ℕ} where
 
 -- ---- the schedule is admissible exactly if no pair breaks a rule
 
--- `first_broken` is the least place whose pair fails the test of both rules (`first-is`). Where it is the count of pairs, each pair
+-- `first_broken` is the least place whose pair fails the test of both rules (`first-is`, of BrokenLaws). Where it is the count of pairs, each pair
 -- passes the test, and so meets both rules. Where it is less, that pair fails, as no pair of an admissible schedule does.
 module _ (ws : List ℕ) (t : ℕ) (s : List ℕ) where
-  first-is : IsLeast (λ k. not (met_at ws t s k)) 0 (pair_count ws) (first_broken ws t s)
-  unfolding first_broken
-  first-is = least-is-least (λ k. not (met_at ws t s k)) 0 (pair_count ws) zero-le
-
   pub none-admissible : pair_count ws ≤ first_broken ws t s → admissible t (pairs ws) s ≡ true
   unfolding met_at margin_at
   none-admissible h =
-      admissible-complete t s (pairs ws) (each-pair ws _ (λ k l. test→met (pair_at ws k) t _ _ (not-false _ (first-is.before k zero-le (omega arith)))))
+      admissible-complete t s (pairs ws) (each-pair ws _ (λ k l. test→met (pair_at ws k) t _ _ (not-false _ ((first-is ws t s).before k zero-le (omega arith)))))
 
   admissible-none : admissible t (pairs ws) s ≡ true → first_broken ws t s < pair_count ws → ⊥
   unfolding met_at margin_at
   admissible-none a h =
-      false≢true (sym (not-true _ (first-is.passes h)) ∙ met→test (pair_at ws _) t _ _ (pair-holds ws _ (admissible-sound t s (pairs ws) a) _ h))
+      false≢true (sym (not-true _ ((first-is ws t s).passes h)) ∙ met→test (pair_at ws _) t _ _ (pair-holds ws _ (admissible-sound t s (pairs ws) a) _ h))
 
   pub some-broken : first_broken ws t s < pair_count ws → admissible t (pairs ws) s ≡ false
   some-broken h = go (admissible t (pairs ws) s) refl
@@ -87,38 +84,12 @@ module _ (ws : List ℕ) (t : ℕ) (s : List ℕ) where
 
   -- as a test
   pub none-test : eqb (first_broken ws t s) (pair_count ws) ≡ admissible t (pairs ws) s
-  none-test = go (eq-or-lt_of_le first-is.upto)
+  none-test = go (eq-or-lt_of_le (first-is ws t s).upto)
     where
       go : (first_broken ws t s ≡ pair_count ws) ⊎ (first_broken ws t s < pair_count ws)
           → eqb (first_broken ws t s) (pair_count ws) ≡ admissible t (pairs ws) s
       go (inl e) = eq-eqb _ _ e ∙ sym (none-admissible (omega arith))
       go (inr l) = ne_eqb (first_broken ws t s) (pair_count ws) (λ e. omega arith) ∙ sym (some-broken l)
-
-  -- ---- the pair and the rule that are named
-
-  met-before : (j : ℕ) → j < first_broken ws t s → (rule : Rule) → non_neg (margin_at ws t s j rule) ≡ true
-  unfolding met_at
-  met-before j h Setup = (and-true _ (non_neg (margin_at ws t s j Hold)) (not-false _ (first-is.before j zero-le h))).0
-  met-before j h Hold = (and-true (non_neg (margin_at ws t s j Setup)) _ (not-false _ (first-is.before j zero-le h))).1
-
-  -- where setup of that pair is met too
-  met-before-hold : non_neg (margin_at ws t s (first_broken ws t s) Setup) ≡ true → (k : ℕ) (rule : Rule)
-      → margin_place k rule < margin_place (first_broken ws t s) Hold → non_neg (margin_at ws t s k rule) ≡ true
-  unfolding rule_number
-  met-before-hold e k Hold l = met-before k (omega arith) Hold
-  met-before-hold e k Setup l = go (eq-or-lt_of_le (omega arith))
-    where
-      go : (k ≡ first_broken ws t s) ⊎ (k < first_broken ws t s) → non_neg (margin_at ws t s k Setup) ≡ true
-      go (inl q) = rw q e
-      go (inr h) = met-before k h Setup
-
-  broken-first : first_broken ws t s < pair_count ws → IsFirstBroken ws t s (first_broken ws t s, broken_rule ws t s (first_broken ws t s))
-  unfolding broken_rule met_at rule_number
-  broken-first h = go (non_neg (margin_at ws t s (first_broken ws t s) Setup)) refl
-    where
-      go : (x : Bool) → non_neg (margin_at ws t s (first_broken ws t s) Setup) ≡ x → IsFirstBroken ws t s (first_broken ws t s, cond x Hold Setup)
-      go false e = record { below = h; broken = e; first = λ k rule l. met-before k (omega arith) rule }
-      go true e = record { below = h; broken = rw e at (not-true (met_at ws t s (first_broken ws t s)) (first-is.passes h)); first = met-before-hold e }
 
   -- ---- and exactly if the smallest margin is not negative
 
@@ -129,7 +100,7 @@ module _ (ws : List ℕ) (t : ℕ) (s : List ℕ) where
         go : (first_broken ws t s < pair_count ws) ⊎ (pair_count ws ≤ first_broken ws t s) → pair_count ws ≤ first_broken ws t s
         go (inr h) = h
         go (inl h) =
-            absurd (false≢true (sym (not-true _ (first-is.passes h)) ∙ met-low ws t s _
+            absurd (false≢true (sym (not-true _ ((first-is ws t s).passes h)) ∙ met-low ws t s _
             ∙ not_negative _ _ (smallest-least ws t s some _ (low_rule ws t s _) h) n))
 
     one_below : non_neg (smallest ws t s).margin ≡ false → first_broken ws t s < pair_count ws
@@ -139,7 +110,7 @@ module _ (ws : List ℕ) (t : ℕ) (s : List ℕ) where
         go (inl h) = h
         go (inr h) =
             let below : (smallest ws t s).pair < first_broken ws t s = omega (arith, smallest-below ws t s some) in
-            absurd (false≢true (sym n ∙ smallest-met ws t s some ∙ not-false _ (first-is.before _ zero-le below)))
+            absurd (false≢true (sym n ∙ smallest-met ws t s some ∙ not-false _ ((first-is ws t s).before _ zero-le below)))
 
     pub sign-is : admissible t (pairs ws) s ≡ non_neg (smallest ws t s).margin
     sign-is = go (non_neg (smallest ws t s).margin) refl
