@@ -9,7 +9,7 @@ ghost use Rattle.propagate.specs.Store.{Lent};
 ghost use Rattle.forced_late.specs.Forest.{number_of, step_of, row_of, from_of, to_of, Marked, Growing, Grew, Grows, Along, Forces, WayForces, PairForces, AllForce};
 ghost use Rattle.forced_late.specs.Forest.{SettledAs, Roots, Rooted, Seeding, Blank, ForcedLate, ClashTold, ClashAt};
 
-use pair_ends::{ENDS, FEW_ENDS, FEW_PAIRS, NONE, REGISTERS};
+use pair_ends::{ENDS, Ends, FEW_ENDS, FEW_PAIRS, NONE, REGISTERS};
 use timing::{PER_PAIR, PER_REGISTER, Pair};
 
 // The choices of a pair, by what its launch and its capture are. Each is a row of the pair.
@@ -241,25 +241,22 @@ fn visit(
     n: usize,
     m: usize,
     r: usize,
-    lasts: &[u16; REGISTERS],
-    before: &[u16],
+    ends: Ends,
     line: &mut Line,
     scratch: &mut [u32],
 )
     requires { Growing words.now n m scratch.old }
     ensures { Grew words.now n scratch.old scratch.new }
 {
-    let mut end = pair_ends::last_at(lasts, r);
-    while end > 0 {
-        let k = (end - 1) / 2;
+    for end in ends.at(r) {
+        let k = usize::from(end / 2);
         if k >= m {
             return;
         }
-        let way = if end % 2 == 1 { Way::Ahead } else { Way::Back };
+        let way = if end % 2 == 0 { Way::Ahead } else { Way::Back };
         if let Some(across) = follow(words, n, m, k, way, scratch) {
             line.join(across);
         }
-        end = pair_ends::end_before(before, end);
     }
 }
 
@@ -269,13 +266,13 @@ fn walk(words: &[u32], n: usize, m: usize, before: &mut [u16], scratch: &mut [u3
     ensures { Grew words.now n scratch.old scratch.new }
 {
     let mut lasts = [0u16; REGISTERS];
-    pair_ends::link(words, m, &mut lasts, before);
+    let ends = pair_ends::link(words, m, &mut lasts, before);
     let mut line = gather(n, scratch);
     for i in 0..n {
         let Some(r) = line.at(i) else {
             return;
         };
-        visit(words, n, m, r, &lasts, before, &mut line, scratch);
+        visit(words, n, m, r, ends, &mut line, scratch);
     }
 }
 
