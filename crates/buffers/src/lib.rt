@@ -9,11 +9,7 @@ pub fn level(places: &mut [u32], k: usize, v: u32)
     requires { k ≤ length places.old }
     ensures { places.new ≡ replicate k v ++ drop k places.old }
 {
-    let mut i = 0;
-    while i < k {
-        places[i] = v;
-        i += 1;
-    }
+    places[..k].fill(v);
 }
 
 // The first k places are set to 0.

@@ -5,8 +5,8 @@
 ghost use Rattle.std.specs.Prelude.{◌≡◌, ◌+◌, ◌-◌, ◌*◌, ◌^◌, ◌<◌, ◌≤◌, true, false, ◌&&◌, [], ◌∷◌, length, nat_lt};
 ghost use Rattle.words.specs.Word.{count_bits, register_bits, launch_of, capture_of, hold_of, setup_of};
 ghost use Rattle.timing.specs.Limits.{max_registers, max_period};
-ghost use Rattle.refusals.specs.Checks.{or_check, first_fault, fault_after, each_check};
-ghost use Rattle.refusals.specs.declared.Fault.TheVariants.{None};
+ghost use Rattle.refusals.specs.Checks.{no_fault, first_fault, each_check};
+ghost use Rattle.refusals.specs.declared.Refusal.TheVariants.{NoNeeds};
 ghost use Rattle.list_format.specs.Lists.{word, registers, pair_count, need_words_by, need_words, hold_at, setup_at, needs_of, place_by, pair_place};
 ghost use Rattle.list_format.specs.Lists.{place_of, step_of, pair_of, written_at, counting, counting_needs, no_needs};
 ghost use Rattle.list_format.specs.Lists.{IsAccepted, PairIn, IsWritten, IsPair, verdict_by, verdict as verdict_of};
@@ -14,9 +14,10 @@ ghost use Rattle.list_format.specs.Lists.{head_checks, need_checks, block_checks
 ghost use Rattle.list_format.specs.Lists.{end_checks, pairs_checks, body_checks};
 ghost use Rattle.list_format.specs.Walk.{next_at, place_after};
 
-use list_format::{Next, Verdict};
-use refusals::Fault;
+use list_format::Counts;
+use refusals::{Refusal, Refused, check};
 use timing::Pair;
+use words::WordKind;
 
 // The place of the first word of pair k after so many words of needs; for k = m, that of the end word.
 pub fn pair_place(needs: usize, k: usize) -> usize
@@ -30,7 +31,7 @@ pub fn pair_place(needs: usize, k: usize) -> usize
 fn need_words(head: u32, second: u32) -> usize
     ensures { (result ≡ need_words_by head second) × (result < 2 ^ register_bits) }
 {
-    if words::kind(second) == words::KIND_NEEDS {
+    if WordKind::Needs.is_of(second) {
         return words::head_registers(head) as usize;
     }
     0
@@ -49,53 +50,54 @@ fn pair_of(pair: u32, least: u32, greatest: u32) -> Pair
 }
 
 // 11 and 12: the head word, and the count of words against it and the word after it.
-fn head_fault(head: u32, second: u32, len: usize) -> Fault
+#[tactic(auto, unfolding(refusals::specs::Checks::or_check, refusals::specs::Checks::fault_after))]
+fn head_fault(head: u32, second: u32, len: usize) -> Result<(), Refused>
     ensures { result ≡ first_fault (head_checks head second len) }
 {
     let n = words::head_registers(head);
     let m = words::head_pairs(head) as usize;
-    Fault::None
-        .or(len < 2, 11, 0)
-        .or(words::kind(head) != words::KIND_HEAD, 12, 0)
-        .or(words::head_spare(head) != 0, 12, 0)
-        .or(n == 0, 12, 0)
-        .or(n > timing::MAX_REGISTERS, 12, 0)
-        .or(m > timing::MAX_PAIRS, 12, 0)
-        .or(len != pair_place(need_words(head, second), m) + 1, 11, 0)
+    check(len < 2, Refusal::Length, 0)?;
+    check(!WordKind::Head.is_of(head), Refusal::Size, 0)?;
+    check(words::head_spare(head) != 0, Refusal::Size, 0)?;
+    check(n == 0, Refusal::Size, 0)?;
+    check(n > timing::MAX_REGISTERS, Refusal::Size, 0)?;
+    check(m > timing::MAX_PAIRS, Refusal::Size, 0)?;
+    let size = pair_place(need_words(head, second), m) + 1;
+    check(len != size, Refusal::Length, 0)
 }
 
 // 13: the three words of a pair, of which the first stands at `at`.
-fn kind_fault(pair: u32, least: u32, greatest: u32, at: usize) -> Fault
+#[tactic(auto, unfolding(refusals::specs::Checks::or_check, refusals::specs::Checks::fault_after))]
+fn kind_fault(pair: u32, least: u32, greatest: u32, at: usize) -> Result<(), Refused>
     requires { at < 2 ^ 32 }
     ensures { result ≡ first_fault (kind_checks pair least greatest at) }
 {
-    Fault::None
-        .or(words::kind(pair) != words::KIND_PAIR, 13, at)
-        .or(words::pair_spare(pair) != 0, 13, at)
-        .or(words::kind(least) != words::KIND_LEAST, 13, at + 1)
-        .or(words::kind(greatest) != words::KIND_GREATEST, 13, at + 2)
+    check(!WordKind::Pair.is_of(pair), Refusal::Word, at)?;
+    check(words::pair_spare(pair) != 0, Refusal::Word, at)?;
+    check(!WordKind::Least.is_of(least), Refusal::Word, at + 1)?;
+    check(!WordKind::Greatest.is_of(greatest), Refusal::Word, at + 2)
 }
 
 // 13: the word of needs of register r.
-fn need_fault(words: &[u32], r: usize) -> Fault
+#[tactic(auto, unfolding(refusals::specs::Checks::or_check, refusals::specs::Checks::fault_after))]
+fn need_fault(words: &[u32], r: usize) -> Result<(), Refused>
     requires { 1 + r < length words.now }
     ensures { result ≡ first_fault (need_checks words.now r) }
 {
     let w = words[1 + r];
-    Fault::None
-        .or(words::kind(w) != words::KIND_NEEDS, 13, 1 + r)
-        .or(words::needs_spare(w) != 0, 13, 1 + r)
-        .or(words::hold(w) > timing::MAX_NEED, 13, 1 + r)
-        .or(words::setup(w) > timing::MAX_NEED, 13, 1 + r)
+    check(!WordKind::Needs.is_of(w), Refusal::Word, 1 + r)?;
+    check(words::needs_spare(w) != 0, Refusal::Word, 1 + r)?;
+    check(words::hold(w) > timing::MAX_NEED, Refusal::Word, 1 + r)?;
+    check(words::setup(w) > timing::MAX_NEED, Refusal::Word, 1 + r)
 }
 
 // Whether the word of needs of register r passes those checks, by tests with no order.
 fn need_passes(words: &[u32], r: usize) -> bool
     requires { 1 + r < length words.now }
-    ensures { result ≡ true → first_fault (need_checks words.now r) ≡ None }
+    ensures { result ≡ true → first_fault (need_checks words.now r) ≡ no_fault }
 {
     let w = words[1 + r];
-    (words::kind(w) == words::KIND_NEEDS)
+    WordKind::Needs.is_of(w)
         & (words::needs_spare(w) == 0)
         & (words::hold(w) <= timing::MAX_NEED)
         & (words::setup(w) <= timing::MAX_NEED)
@@ -104,13 +106,11 @@ fn need_passes(words: &[u32], r: usize) -> bool
 // Whether all words of needs do. No word ends the loop, so that several are looked at in one step.
 fn needs_pass(words: &[u32], needs: usize) -> bool
     requires { needs < length words.now }
-    ensures { result ≡ true → first_fault (each_check (need_checks words.now) 0 needs) ≡ None }
+    ensures { result ≡ true → first_fault (each_check (need_checks words.now) 0 needs) ≡ no_fault }
 {
     let mut pass = true;
-    let mut r = 0;
-    while r < needs {
+    for r in 0..needs {
         pass = pass & need_passes(words, r);
-        r += 1;
     }
     pass
 }
@@ -120,8 +120,7 @@ fn none_needed(words: &[u32], needs: usize) -> bool
     requires { (0 < needs) × ((needs ≡ need_words words.now) × (needs < length words.now)) }
     ensures { result ≡ no_needs (needs_of words.now) }
 {
-    let mut r = 0;
-    while r < needs {
+    for r in 0..needs {
         let w = words[1 + r];
         if words::hold(w) != 0 {
             return false;
@@ -129,40 +128,35 @@ fn none_needed(words: &[u32], needs: usize) -> bool
         if words::setup(w) != 0 {
             return false;
         }
-        r += 1;
     }
     true
 }
 
 // 18: words of needs, and all needs are 0.
-fn zero_fault(words: &[u32], needs: usize) -> Fault
+#[tactic(auto, unfolding(refusals::specs::Checks::or_check, refusals::specs::Checks::fault_after))]
+fn zero_fault(words: &[u32], needs: usize) -> Result<(), Refused>
     requires { (needs ≡ need_words words.now) × (needs < length words.now) }
-    ensures { result ≡ first_fault ((nat_lt 0 needs && no_needs (needs_of words.now), 18, 1) ∷ []) }
+    ensures { result ≡ first_fault ((nat_lt 0 needs && no_needs (needs_of words.now), NoNeeds, 1) ∷ []) }
 {
-    if 0 < needs {
-        return Fault::None.or(none_needed(words, needs), 18, 1);
+    if needs == 0 {
+        return Ok(());
     }
-    Fault::None
+    check(none_needed(words, needs), Refusal::NoNeeds, 1)
 }
 
 // The words of needs, one by one, then 18.
-fn needs_fault(words: &[u32], needs: usize) -> Fault
+fn needs_fault(words: &[u32], needs: usize) -> Result<(), Refused>
     requires { (needs ≡ need_words words.now) × (needs < length words.now) }
     ensures { result ≡ first_fault (block_checks words.now needs) }
 {
-    let mut r = 0;
-    while r < needs {
-        let found = need_fault(words, r);
-        if let Fault::At(number, place) = found {
-            return Fault::At(number, place);
-        }
-        r += 1;
+    for r in 0..needs {
+        need_fault(words, r)?;
     }
     zero_fault(words, needs)
 }
 
 // The same, with no look for the first that fails where all pass.
-fn block_fault(words: &[u32], needs: usize) -> Fault
+fn block_fault(words: &[u32], needs: usize) -> Result<(), Refused>
     requires { (needs ≡ need_words words.now) × (needs < length words.now) }
     ensures { result ≡ first_fault (block_checks words.now needs) }
 {
@@ -194,55 +188,39 @@ pub fn setup_at(words: &[u32], needs: usize, r: u32) -> u32
     0
 }
 
-// 14, 15, 16, 19: the values of a pair in a list of n registers, after what was found before. `hold` is that of the capture register.
+// 14, 15, 16, 19: the values of a pair in a list of n registers. `hold` is that of the capture register.
+#[tactic(auto, unfolding(refusals::specs::Checks::or_check, refusals::specs::Checks::fault_after))]
 pub fn value_fault(
-    found: Fault,
     n: u32,
     hold: u32,
     p: Pair,
     at: usize,
     least_at: usize,
     greatest_at: usize,
-) -> Fault
-    ensures { result ≡ fault_after found (value_checks n hold p at least_at greatest_at) }
+) -> Result<(), Refused>
+    ensures { result ≡ first_fault (value_checks n hold p at least_at greatest_at) }
 {
-    found
-        .or(p.launch >= n, 14, at)
-        .or(p.capture >= n, 14, at)
-        .or(p.least > timing::MAX_DELAY, 15, least_at)
-        .or(p.greatest > timing::MAX_DELAY, 15, greatest_at)
-        .or(p.least > p.greatest, 16, greatest_at)
-        .or(p.least < hold, 19, least_at)
-}
-
-// 19 for a pair of the list, after what was found before. The hold is looked up only where nothing was.
-fn hold_fault(words: &[u32], needs: usize, found: Fault, p: Pair, at: usize) -> Fault
-    requires { (needs ≡ need_words words.now) × (needs < length words.now) }
-    ensures { result ≡ or_check found (nat_lt p.least (hold_at words.now p.capture), 19, at) }
-{
-    if let Fault::At(number, place) = found {
-        return Fault::At(number, place);
-    }
-    Fault::None.or(p.least < hold_at(words, needs, p.capture), 19, at)
+    check(p.launch >= n, Refusal::Register, at)?;
+    check(p.capture >= n, Refusal::Register, at)?;
+    check(p.least > timing::MAX_DELAY, Refusal::Delay, least_at)?;
+    check(p.greatest > timing::MAX_DELAY, Refusal::Delay, greatest_at)?;
+    check(p.least > p.greatest, Refusal::Crossed, greatest_at)?;
+    check(p.least < hold, Refusal::Hold, least_at)
 }
 
 // All checks of pair k but for its order. Where there are words of needs, there are n of them.
-fn own_fault(words: &[u32], needs: usize, n: u32, k: usize) -> Fault
-    requires { (needs ≡ need_words words.now) × ((k < 2 ^ count_bits) × ((pair_place words.now k + 3 ≤ length words.now)
-        × (n ≡ registers words.now))) }
+fn own_fault(words: &[u32], needs: usize, n: u32, k: usize) -> Result<(), Refused>
+    requires { (needs ≡ need_words words.now) × ((k < 2 ^ count_bits) × (pair_place words.now k + 3 ≤ length words.now)) }
     ensures { result ≡ first_fault (own_checks words.now n k) }
 {
     let at = pair_place(needs, k);
     let pair = words[at];
     let least = words[at + 1];
     let greatest = words[at + 2];
-    let found = kind_fault(pair, least, greatest, at);
+    kind_fault(pair, least, greatest, at)?;
     let p = pair_of(pair, least, greatest);
-    let ranged = value_fault(found, n, 0, p, at, at + 1, at + 2);
-    if needs == 0 {
-        return ranged;
-    }
-    hold_fault(words, n as usize, ranged, p, at + 1)
+    let hold = hold_at(words, needs, p.capture);
+    value_fault(n, hold, p, at, at + 1, at + 2)
 }
 
 // What pairs are ordered by: the launch register, then the capture register.
@@ -260,110 +238,94 @@ fn key_of(pair: u32) -> u64
 }
 
 // 20: pair k is not above the one before it, where the order is asked for.
-fn order_fault(words: &[u32], needs: usize, asked: bool, k: usize) -> Fault
+fn order_fault(words: &[u32], needs: usize, asked: bool, k: usize) -> Result<(), Refused>
     requires { (needs ≡ need_words words.now) × ((k < 2 ^ count_bits) × (pair_place words.now k + 3 ≤ length words.now)) }
     ensures { result ≡ first_fault (order_check asked (written_at words.now) k (pair_place words.now k) ∷ []) }
 {
     if !asked {
-        return Fault::None;
+        return Ok(());
     }
     if k == 0 {
-        return Fault::None;
+        return Ok(());
     }
     let at = pair_place(needs, k);
     let last = key_of(words[at - 3]);
-    Fault::None.or(key_of(words[at]) <= last, 20, at)
+    check(key_of(words[at]) <= last, Refusal::Order, at)
 }
 
 // All checks of pair k.
-fn pair_fault(words: &[u32], needs: usize, asked: bool, n: u32, k: usize) -> Fault
-    requires { (needs ≡ need_words words.now) × ((k < 2 ^ count_bits) × ((pair_place words.now k + 3 ≤ length words.now)
-        × (n ≡ registers words.now))) }
+fn pair_fault(words: &[u32], needs: usize, asked: bool, n: u32, k: usize) -> Result<(), Refused>
+    requires { (needs ≡ need_words words.now) × ((k < 2 ^ count_bits) × (pair_place words.now k + 3 ≤ length words.now)) }
     ensures { result ≡ first_fault (pair_checks asked words.now n k) }
 {
-    let own = own_fault(words, needs, n, k);
-    if let Fault::At(number, place) = own {
-        return Fault::At(number, place);
-    }
+    own_fault(words, needs, n, k)?;
     order_fault(words, needs, asked, k)
 }
 
 // 13 and 17: the end word, which stands at `at`.
-fn end_fault(words: &[u32], at: usize) -> Fault
+#[tactic(auto, unfolding(refusals::specs::Checks::or_check, refusals::specs::Checks::fault_after))]
+fn end_fault(words: &[u32], at: usize) -> Result<(), Refused>
     requires { at < length words.now }
     ensures { result ≡ first_fault (end_checks words.now at) }
 {
     let last = words[at];
+    check(!WordKind::End.is_of(last), Refusal::Word, at)?;
     let sum = words::end_payload(words, at);
-    Fault::None
-        .or(words::kind(last) != words::KIND_END, 13, at)
-        .or(words::payload(last) != sum, 17, at)
+    check(words::payload(last) != sum, Refusal::Sum, at)
 }
 
 // The pairs, one by one, then the end.
-fn pairs_fault(words: &[u32], needs: usize, asked: bool, n: u32, m: usize) -> Fault
-    requires { (needs ≡ need_words words.now) × ((m < 2 ^ count_bits) × ((length words.now ≡ pair_place words.now m + 1)
-        × (n ≡ registers words.now))) }
+fn pairs_fault(words: &[u32], needs: usize, asked: bool, n: u32, m: usize) -> Result<(), Refused>
+    requires { (needs ≡ need_words words.now) × ((m < 2 ^ count_bits) × (length words.now ≡ pair_place words.now m + 1)) }
     ensures { result ≡ first_fault (pairs_checks asked words.now n m) }
 {
-    let mut k = 0;
-    while k < m {
-        let found = pair_fault(words, needs, asked, n, k);
-        if let Fault::At(number, place) = found {
-            return Fault::At(number, place);
-        }
-        k += 1;
+    for k in 0..m {
+        pair_fault(words, needs, asked, n, k)?;
     }
     end_fault(words, pair_place(needs, m))
 }
 
 // The checks of all that stands after the head.
-fn body_fault(words: &[u32], needs: usize, asked: bool, n: u32, m: usize) -> Fault
-    requires { (needs ≡ need_words words.now) × ((m < 2 ^ count_bits) × ((length words.now ≡ pair_place words.now m + 1)
-        × (n ≡ registers words.now))) }
+fn body_fault(words: &[u32], needs: usize, asked: bool, n: u32, m: usize) -> Result<(), Refused>
+    requires { (needs ≡ need_words words.now) × ((m < 2 ^ count_bits) × (length words.now ≡ pair_place words.now m + 1)) }
     ensures { result ≡ first_fault (body_checks asked words.now n m) }
 {
-    let block = block_fault(words, needs);
-    let rest = pairs_fault(words, needs, asked, n, m);
-    block.then(rest)
+    block_fault(words, needs)?;
+    pairs_fault(words, needs, asked, n, m)
 }
 
 // Word i, or 0 if there is none.
 fn word_at(words: &[u32], i: usize) -> u32
     ensures { result ≡ word words.now i }
 {
-    if i < words.len() {
-        return words[i];
-    }
-    0
+    words.get(i).copied().unwrap_or(0)
 }
 
 // The counts of registers and pairs, or the first refusal with its place, with the order asked for or not.
-fn verdict_by(words: &[u32], asked: bool) -> Verdict
+fn verdict_by(words: &[u32], asked: bool) -> Result<Counts, Refused>
     ensures { result ≡ verdict_by asked words.now }
 {
     let head = word_at(words, 0);
     let second = word_at(words, 1);
-    if let Fault::At(number, place) = head_fault(head, second, words.len()) {
-        return Verdict::Refused(number, place);
-    }
+    head_fault(head, second, words.len())?;
     let n = words::head_registers(head);
     let m = words::head_pairs(head);
-    match body_fault(words, need_words(head, second), asked, n, m as usize) {
-        Fault::At(number, place) => Verdict::Refused(number, place),
-        Fault::None => Verdict::Accepted(n, m),
-    }
+    body_fault(words, need_words(head, second), asked, n, m as usize)?;
+    Ok(Counts {
+        registers: n,
+        pairs: m,
+    })
 }
 
 // The counts of registers and pairs, or the first refusal with its place.
-pub fn verdict(words: &[u32]) -> Verdict
+pub fn verdict(words: &[u32]) -> Result<Counts, Refused>
     ensures { result ≡ verdict_of words.now }
 {
     verdict_by(words, true)
 }
 
 // The same for a stored list in any order, which may name a pair more than once: 20 is not asked.
-pub fn stored_verdict(words: &[u32]) -> Verdict
+pub fn stored_verdict(words: &[u32]) -> Result<Counts, Refused>
     ensures { result ≡ verdict_by false words.now }
 {
     verdict_by(words, false)
@@ -418,14 +380,14 @@ fn pairs_left(words: &[u32], k: usize) -> usize
 }
 
 // Pair k, or the end.
-fn next_from(words: &[u32], k: usize) -> Next
+fn next_from(words: &[u32], k: usize) -> Option<Pair>
     requires { IsAccepted words.now }
     ensures { result ≡ next_at words.now k }
 {
     if 0 < pairs_left(words, k) {
-        return Next::One(pair_from(words, k));
+        return Some(pair_from(words, k));
     }
-    Next::End
+    None
 }
 
 // The place after k; the end stays the end.
@@ -462,7 +424,7 @@ impl<'a> Reader<'a> {
     }
 
     // The pair that it has come to, or the end.
-    pub fn next(self) -> Next
+    pub fn next(self) -> Option<Pair>
         requires { IsAccepted self.words.now }
         ensures { result ≡ next_at self.entry.words.now self.entry.at }
     {
@@ -531,18 +493,14 @@ pub fn pair_at(words: &[u32], k: usize) -> Pair
 pub fn walk_start(m: usize, down: bool) -> usize
     ensures { 0 < m → result ≡ place_of m down 0 }
 {
-    if down {
-        std::num::wrapping_sub_usize(m, 1)
-    } else {
-        0
-    }
+    if down { m.wrapping_sub(1) } else { 0 }
 }
 
 // What takes a walk from place to place, by a sum that wraps.
 pub fn walk_step(down: bool) -> usize
     ensures { result ≡ step_of down }
 {
-    if down { 0xFFFF_FFFF_FFFF_FFFF } else { 1 }
+    if down { usize::MAX } else { 1 }
 }
 
 // The i-th pair of a walk over m pairs: up the list, or from its end if down.

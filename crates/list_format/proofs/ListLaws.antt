@@ -2,7 +2,7 @@
 use Prim.Native.Nat.{ℕ, zero, suc, ◌+◌, ◌-◌, ◌%◌, ◌^◌, ◌<◌, ◌≤◌}
 use mathlib.Core.Bool.{Bool, true, false, not, cond, ◌&&◌}
 use mathlib.Core.List.{List, [], ◌∷◌, ◌++◌}
-use mathlib.Core.Path.{◌≡◌, refl, ◌∙◌, ap}
+use mathlib.Core.Path.{◌≡◌, sym, refl, ◌∙◌, ap}
 use native.Mathlib.Omega.{arith}
 use lib.Dec.{ltb, leb, eqb}
 use lib.ListN.{length, take}
@@ -14,92 +14,102 @@ use Rattle.words.specs.Word.{kind_head, kind_pair, kind_least, kind_greatest, ki
 use Rattle.words.specs.Word.{hold_of, setup_of, needs_spare}
 use Rattle.ordering.specs.Order.{key_of, not_above, Ascends}
 use Rattle.ordering.proofs.OrderLaws.{above-none, none_above, above-first, above-later}
-use Rattle.refusals.specs.Checks.{Check, or_check, fault_after, first_fault, each_check}
+use Rattle.refusals.specs.Checks.{Check, or_check, fault_after, first_fault, each_check, no_fault, Fault}
 use Rattle.refusals.specs.Reply.{numbers, Outcome, reply_of, answered}
-use Rattle.refusals.specs.declared.Fault.{Fault}
-use Rattle.refusals.specs.declared.Fault.TheVariants.{None, At}
 use Rattle.refusals.proofs.CheckLaws.{or-passed, stop-first, pass-first, both-pass, pass-both, passed, passes, each_of, all_of}
 use Rattle.refusals.proofs.ReplyLaws.{numbers-none}
 use Rattle.list_format.specs.Lists.{word, registers, pair_count, need_words, hold_at, setup_at, needs_of, pair_place, written_at}
 use Rattle.list_format.specs.Lists.{counting_needs, pair_at, pairs_from, pairs, place_of, step_of, no_needs}
 use Rattle.list_format.specs.Lists.{differ, head_checks, need_checks, block_checks, kind_checks, value_checks, own_checks, order_check, pair_checks, end_checks}
 use Rattle.list_format.specs.Lists.{pairs_checks, body_checks, checks_by, list_checks}
-use Rattle.list_format.specs.Lists.{judged, verdict_by, verdict, NeedsIn, ValuesIn, WrittenIn, IsAccepted, AcceptedList}
+use Rattle.list_format.specs.Lists.{judged, verdict_by, verdict, Verdict, NeedsIn, ValuesIn, WrittenIn, accepted, IsAccepted, AcceptedList}
 use Rattle.list_format.specs.Lists.{first_needs, IsUsable, UsableList, PairIn, IsWritten, IsPair}
 use Rattle.list_format.proofs.NeedsLaws.{needs-present, needs-absent}
-use Rattle.list_format.specs.declared.Verdict.TheVariants.{Accepted, Refused}
+use Rattle.std.specs.Prelude.{Ok, Err}
+use Rattle.refusals.specs.declared.Refused.{Refused}
+use Rattle.list_format.specs.declared.Counts.{Counts}
+use Rattle.refusals.specs.declared.Refusal.TheVariants.{Hold, Order}
 
 -- ---- the verdict and the first check that fails
 
+-- a verdict tells one count of registers and one of pairs
+count_in : (Counts → ℕ) → Verdict → ℕ
+count_in f (Ok c) = f c
+count_in f (Err r) = 0
+
+pub same-counts : {n m k l : ℕ} → accepted n m ≡ accepted k l → (n ≡ k) × (m ≡ l)
+unfolding count_in
+same-counts e = (ap (count_in (λ c. c.registers)) e, ap (count_in (λ c. c.pairs)) e)
+
 -- with the order asked for or not
 module _ (asked : Bool) (ws : List ℕ) where
-  fault-refused : {number place : ℕ} → first_fault (checks_by asked ws) ≡ At number place → verdict_by asked ws ≡ Refused number place
+  fault-refused : {r : Refused} → first_fault (checks_by asked ws) ≡ Err r → verdict_by asked ws ≡ Err r
   unfolding judged verdict_by
   fault-refused e = ap (judged ws) e
 
-  pub none-accepted : first_fault (checks_by asked ws) ≡ None → verdict_by asked ws ≡ Accepted (registers ws) (pair_count ws)
+  pub none-accepted : first_fault (checks_by asked ws) ≡ no_fault → verdict_by asked ws ≡ accepted (registers ws) (pair_count ws)
   unfolding judged verdict_by
   none-accepted e = ap (judged ws) e
 
   -- the head decides, or else what stands after it
-  pub head-refuses : {number place : ℕ} → first_fault (head_checks (word ws 0) (word ws 1) (length ws)) ≡ At number place
-      → verdict_by asked ws ≡ Refused number place
+  pub head-refuses : {r : Refused} → first_fault (head_checks (word ws 0) (word ws 1) (length ws)) ≡ Err r
+      → verdict_by asked ws ≡ Err r
   head-refuses e =
       fault-refused (stop-first (head_checks (word ws 0) (word ws 1) (length ws)) (body_checks asked ws (registers ws) (pair_count ws)) e)
 
-  module _ (head : first_fault (head_checks (word ws 0) (word ws 1) (length ws)) ≡ None) where
+  module _ (head : first_fault (head_checks (word ws 0) (word ws 1) (length ws)) ≡ no_fault) where
     rest-decides : first_fault (checks_by asked ws) ≡ first_fault (body_checks asked ws (registers ws) (pair_count ws))
     rest-decides = pass-first (head_checks (word ws 0) (word ws 1) (length ws)) (body_checks asked ws (registers ws) (pair_count ws)) head
 
-    pub body-refuses : {number place : ℕ} → first_fault (body_checks asked ws (registers ws) (pair_count ws)) ≡ At number place
-        → verdict_by asked ws ≡ Refused number place
+    pub body-refuses : {r : Refused} → first_fault (body_checks asked ws (registers ws) (pair_count ws)) ≡ Err r
+        → verdict_by asked ws ≡ Err r
     body-refuses e = fault-refused (rest-decides ∙ e)
 
-    pub body-accepts : first_fault (body_checks asked ws (registers ws) (pair_count ws)) ≡ None
-        → verdict_by asked ws ≡ Accepted (registers ws) (pair_count ws)
+    pub body-accepts : first_fault (body_checks asked ws (registers ws) (pair_count ws)) ≡ no_fault
+        → verdict_by asked ws ≡ accepted (registers ws) (pair_count ws)
     body-accepts e = none-accepted (rest-decides ∙ e)
 
-  judged-refused : (f : Fault) {number place : ℕ} → judged ws f ≡ Refused number place → f ≡ At number place
+  judged-refused : (f : Fault) {r : Refused} → judged ws f ≡ Err r → f ≡ Err r
   unfolding judged
-  judged-refused None e =
+  judged-refused (Ok u) e =
       let z : ◌≡◌ {A = ℕ} 0 1 = cc in
       absurd (omega arith)
-  judged-refused (At number place) e = cc
+  judged-refused (Err r) e = cc
 
-  pub refused-fault : {number place : ℕ} → verdict_by asked ws ≡ Refused number place → first_fault (checks_by asked ws) ≡ At number place
+  pub refused-fault : {r : Refused} → verdict_by asked ws ≡ Err r → first_fault (checks_by asked ws) ≡ Err r
   unfolding verdict_by
   refused-fault e = judged-refused (first_fault (checks_by asked ws)) e
 
   -- a list that is not refused passes every check, and its counts are those of its head
   pub record PassedAs (n m : ℕ) : Type 0 where
-    pub none : first_fault (checks_by asked ws) ≡ None
+    pub none : first_fault (checks_by asked ws) ≡ no_fault
     pub registers_are : n ≡ registers ws
     pub pairs_are : m ≡ pair_count ws
 
-  judged-passed : (f : Fault) {n m : ℕ} → first_fault (checks_by asked ws) ≡ f → judged ws f ≡ Accepted n m → PassedAs n m
+  judged-passed : (f : Fault) {n m : ℕ} → first_fault (checks_by asked ws) ≡ f → judged ws f ≡ accepted n m → PassedAs n m
   unfolding judged
-  judged-passed None e a = record { none = e; registers_are = cc; pairs_are = cc }
-  judged-passed (At number place) e a =
+  judged-passed (Ok u) e a = record { none = e; registers_are = sym (same-counts a).0; pairs_are = sym (same-counts a).1 }
+  judged-passed (Err r) e a =
       let z : ◌≡◌ {A = ℕ} 0 1 = cc in
       absurd (omega arith)
 
-  pub accepted-passed : {n m : ℕ} → verdict_by asked ws ≡ Accepted n m → PassedAs n m
+  pub accepted-passed : {n m : ℕ} → verdict_by asked ws ≡ accepted n m → PassedAs n m
   unfolding verdict_by
   accepted-passed a = judged-passed (first_fault (checks_by asked ws)) refl a
 
 -- with the order
 module _ (ws : List ℕ) where
-  pub none→accepted : first_fault (list_checks ws) ≡ None → IsAccepted ws
+  pub none→accepted : first_fault (list_checks ws) ≡ no_fault → IsAccepted ws
   none→accepted e = none-accepted true ws e
 
-  pub refused→fault : {number place : ℕ} → verdict ws ≡ Refused number place → first_fault (list_checks ws) ≡ At number place
+  pub refused→fault : {r : Refused} → verdict ws ≡ Err r → first_fault (list_checks ws) ≡ Err r
   refused→fault e = refused-fault true ws e
 
   pub record AcceptedAs (n m : ℕ) : Type 0 where
-    pub none : first_fault (list_checks ws) ≡ None
+    pub none : first_fault (list_checks ws) ≡ no_fault
     pub list : AcceptedList ws n m
 
-  pub accepted→none : {n m : ℕ} → verdict ws ≡ Accepted n m → AcceptedAs n m
+  pub accepted→none : {n m : ℕ} → verdict ws ≡ accepted n m → AcceptedAs n m
   accepted→none a =
       let p = accepted-passed true ws a in
       record { none = p.none; list = record { accepted = none→accepted p.none; registers_are = p.registers_are; pairs_are = p.pairs_are } }
@@ -144,7 +154,7 @@ pub no_difference : (a b : ℕ) → a ≡ b → differ a b ≡ Bool.false
 no_difference a b e = ap not (eq-eqb a b e)
 
 module _ (n hold : ℕ) (p : Pair) (at least_at greatest_at : ℕ) where
-  pub values-in : first_fault (value_checks n hold p at least_at greatest_at) ≡ None → WrittenIn n hold p
+  pub values-in : first_fault (value_checks n hold p at least_at greatest_at) ≡ no_fault → WrittenIn n hold p
   values-in e =
       let h = passed (value_checks n hold p at least_at greatest_at) e in
       record {
@@ -157,7 +167,7 @@ module _ (n hold : ℕ) (p : Pair) (at least_at greatest_at : ℕ) where
         holds = ltb-false _ _ h.1.1.1.1.1.0;
       }
 
-  pub values-pass : WrittenIn n hold p → first_fault (value_checks n hold p at least_at greatest_at) ≡ None
+  pub values-pass : WrittenIn n hold p → first_fault (value_checks n hold p at least_at greatest_at) ≡ no_fault
   values-pass w =
       let v = w.values in
       passes (value_checks n hold p at least_at greatest_at) (
@@ -169,7 +179,7 @@ module _ (n hold : ℕ) (p : Pair) (at least_at greatest_at : ℕ) where
       )
 
   -- 19 comes last, and with no hold it passes
-  pub hold-last : (f : Fault) → or_check (fault_after f (value_checks n 0 p at least_at greatest_at)) (ltb p.least hold, 19, least_at)
+  pub hold-last : (f : Fault) → or_check (fault_after f (value_checks n 0 p at least_at greatest_at)) (ltb p.least hold, Hold, least_at)
       ≡ fault_after f (value_checks n hold p at least_at greatest_at)
   unfolding fault_after
   hold-last f = rw (le-ltb p.least 0 (omega arith), or-passed)
@@ -180,35 +190,35 @@ and-false false = refl
 
 -- the order of m pairs passes where it is not asked for, and where they ascend
 pub order-pass : (asked : Bool) (f : ℕ → Pair) {m k : ℕ} (at : ℕ) → (asked ≡ true → Ascends f m) → k < m
-    → first_fault (order_check asked f k at ∷ []) ≡ None
+    → first_fault (order_check asked f k at ∷ []) ≡ no_fault
 order-pass false f {m} {k} at a h = passes (order_check false f k at ∷ []) (refl, tt)
 order-pass true f {m} {k} at a h = passes (order_check true f k at ∷ []) (above-none f m (a refl) k h, tt)
 
 -- what the order of pair k comes to: met where it is not asked for, and for the first pair; else it is compared with the one before it
 module _ (asked : Bool) (f : ℕ → Pair) (k at : ℕ) where
-  pub order-unasked : asked ≡ false → first_fault (order_check asked f k at ∷ []) ≡ None
+  pub order-unasked : asked ≡ false → first_fault (order_check asked f k at ∷ []) ≡ no_fault
   order-unasked e = passes (order_check asked f k at ∷ []) (rw e, tt)
 
-  pub order-first : k ≡ 0 → first_fault (order_check asked f k at ∷ []) ≡ None
+  pub order-first : k ≡ 0 → first_fault (order_check asked f k at ∷ []) ≡ no_fault
   order-first e = passes (order_check asked f k at ∷ []) (rw (e, above-first f) (and-false asked), tt)
 
-  pub order-later : asked ≡ true → 0 < k → first_fault (order_check asked f k at ∷ []) ≡ or_check None (leb (key_of (f k)) (key_of (f (k - 1))), 20, at)
+  pub order-later : asked ≡ true → 0 < k → first_fault (order_check asked f k at ∷ []) ≡ or_check no_fault (leb (key_of (f k)) (key_of (f (k - 1))), Order, at)
   unfolding fault_after
   order-later e h = rw (e, above-later f k h)
 
 module _ (p least greatest at : ℕ) where
-  kinds-in : first_fault (kind_checks p least greatest at) ≡ None → KindsIn p least greatest
+  kinds-in : first_fault (kind_checks p least greatest at) ≡ no_fault → KindsIn p least greatest
   kinds-in e =
       let h = passed (kind_checks p least greatest at) e in
       record { kind = same _ _ h.0; spare = same _ _ h.1.0; least_kind = same _ _ h.1.1.0; greatest_kind = same _ _ h.1.1.1.0 }
 
-  kinds-pass : KindsIn p least greatest → first_fault (kind_checks p least greatest at) ≡ None
+  kinds-pass : KindsIn p least greatest → first_fault (kind_checks p least greatest at) ≡ no_fault
   kinds-pass k =
       passes (kind_checks p least greatest at)
       (no_difference _ _ k.kind, (no_difference _ _ k.spare, (no_difference _ _ k.least_kind, (no_difference _ _ k.greatest_kind, tt))))
 
 module _ (ws : List ℕ) where
-  pub head_in : first_fault (head_checks (word ws 0) (word ws 1) (length ws)) ≡ None → HeadIn ws
+  pub head_in : first_fault (head_checks (word ws 0) (word ws 1) (length ws)) ≡ no_fault → HeadIn ws
   head_in e =
       let h = passed (head_checks (word ws 0) (word ws 1) (length ws)) e in
       record {
@@ -220,7 +230,7 @@ module _ (ws : List ℕ) where
         size = same _ _ h.1.1.1.1.1.1.0;
       }
 
-  head-pass : HeadIn ws → first_fault (head_checks (word ws 0) (word ws 1) (length ws)) ≡ None
+  head-pass : HeadIn ws → first_fault (head_checks (word ws 0) (word ws 1) (length ws)) ≡ no_fault
   head-pass h =
       passes (head_checks (word ws 0) (word ws 1) (length ws)) (
         le-ltb (length ws) 2 (omega (arith, h.size)),
@@ -234,7 +244,7 @@ module _ (ws : List ℕ) where
       )
 
   module _ (r : ℕ) where
-    need-in : first_fault (need_checks ws r) ≡ None → NeedWordIn (word ws (1 + r))
+    need-in : first_fault (need_checks ws r) ≡ no_fault → NeedWordIn (word ws (1 + r))
     need-in e =
         let h = passed (need_checks ws r) e in
         record {
@@ -243,18 +253,18 @@ module _ (ws : List ℕ) where
           needs = record { hold = ltb-false _ _ h.1.1.0; setup = ltb-false _ _ h.1.1.1.0 };
         }
 
-    pub need-pass : NeedWordIn (word ws (1 + r)) → first_fault (need_checks ws r) ≡ None
+    pub need-pass : NeedWordIn (word ws (1 + r)) → first_fault (need_checks ws r) ≡ no_fault
     need-pass w =
         passes (need_checks ws r)
         (no_difference _ _ w.kind, (no_difference _ _ w.spare, (le-ltb _ _ w.needs.hold, (le-ltb _ _ w.needs.setup, tt))))
 
   module _ (at : ℕ) where
-    end-in : first_fault (end_checks ws at) ≡ None → EndIn ws at
+    end-in : first_fault (end_checks ws at) ≡ no_fault → EndIn ws at
     end-in e =
         let h = passed (end_checks ws at) e in
         record { kind = same _ _ h.0; payload = same _ _ h.1.0 }
 
-    end-pass : EndIn ws at → first_fault (end_checks ws at) ≡ None
+    end-pass : EndIn ws at → first_fault (end_checks ws at) ≡ no_fault
     end-pass e = passes (end_checks ws at) (no_difference _ _ e.kind, (no_difference _ _ e.payload, tt))
 
   -- ---- an accepted list, fact by fact
@@ -270,10 +280,10 @@ module _ (ws : List ℕ) where
     pub end : EndIn ws (pair_place ws (pair_count ws))
 
   -- the checks of pair k, the order asked for or not: of its words, of its values, of its order
-  parts : (asked : Bool) → first_fault (checks_by asked ws) ≡ None → (k : ℕ) → k < pair_count ws
-      → (first_fault (kind_checks (word ws (pair_place ws k)) (word ws (pair_place ws k + 1)) (word ws (pair_place ws k + 2)) (pair_place ws k)) ≡ None)
+  parts : (asked : Bool) → first_fault (checks_by asked ws) ≡ no_fault → (k : ℕ) → k < pair_count ws
+      → (first_fault (kind_checks (word ws (pair_place ws k)) (word ws (pair_place ws k + 1)) (word ws (pair_place ws k + 2)) (pair_place ws k)) ≡ no_fault)
       × ((first_fault (value_checks (registers ws) (hold_at ws (written_at ws k).capture) (written_at ws k)
-      (pair_place ws k) (pair_place ws k + 1) (pair_place ws k + 2)) ≡ None)
+      (pair_place ws k) (pair_place ws k + 1) (pair_place ws k + 2)) ≡ no_fault)
       × (asked && not_above (written_at ws) k ≡ false))
   parts asked e k h =
       let body = both-pass (head_checks (word ws 0) (word ws 1) (length ws)) (body_checks asked ws (registers ws) (pair_count ws)) e in
@@ -283,7 +293,7 @@ module _ (ws : List ℕ) where
       let own = both-pass (kind_checks (word ws (pair_place ws k)) (word ws (pair_place ws k + 1)) (word ws (pair_place ws k + 2)) (pair_place ws k)) _ row.0 in
       (own.0, (own.1, (passed (order_check asked (written_at ws) k (pair_place ws k) ∷ []) row.1).0))
 
-  pub passed-in : (asked : Bool) → first_fault (checks_by asked ws) ≡ None → ListIn
+  pub passed-in : (asked : Bool) → first_fault (checks_by asked ws) ≡ no_fault → ListIn
   passed-in asked e =
       let body = both-pass (head_checks (word ws 0) (word ws 1) (length ws)) (body_checks asked ws (registers ws) (pair_count ws)) e in
       let block = both-pass (block_checks ws (need_words ws)) (pairs_checks asked ws (registers ws) (pair_count ws)) body.1 in
@@ -298,14 +308,14 @@ module _ (ws : List ℕ) where
         end = end-in _ rest.1;
       }
 
-  pub list-in : first_fault (list_checks ws) ≡ None → ListIn
+  pub list-in : first_fault (list_checks ws) ≡ no_fault → ListIn
   list-in e = passed-in true e
 
   -- the order that was asked for
-  pub list-ascends : first_fault (list_checks ws) ≡ None → Ascends (written_at ws) (pair_count ws)
+  pub list-ascends : first_fault (list_checks ws) ≡ no_fault → Ascends (written_at ws) (pair_count ws)
   list-ascends e = none_above (written_at ws) (pair_count ws) (λ k h. (parts true e k h).1.1)
 
-  pub list-pass : (asked : Bool) → ListIn → (asked ≡ true → Ascends (written_at ws) (pair_count ws)) → first_fault (checks_by asked ws) ≡ None
+  pub list-pass : (asked : Bool) → ListIn → (asked ≡ true → Ascends (written_at ws) (pair_count ws)) → first_fault (checks_by asked ws) ≡ no_fault
   list-pass asked l a =
       pass-both (head_checks (word ws 0) (word ws 1) (length ws)) (body_checks asked ws (registers ws) (pair_count ws)) (head-pass l.head)
       (pass-both (block_checks ws (need_words ws)) (pairs_checks asked ws (registers ws) (pair_count ws))

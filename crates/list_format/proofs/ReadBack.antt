@@ -20,9 +20,8 @@ use Rattle.words.specs.Word.{kind_least, kind_greatest, kind_end, word_of, kind_
 use Rattle.words.proofs.WordLaws.{word-of-parts, word-of-head, word-of-needs, word-of-pair}
 use Rattle.buffers.specs.Run.{run}
 use Rattle.buffers.proofs.RunLaws.{run_length, run_at, run-front, take-stretch}
-use Rattle.refusals.specs.Checks.{first_fault, each_check}
+use Rattle.refusals.specs.Checks.{first_fault, each_check, no_fault}
 use Rattle.refusals.specs.Reply.{done, unless}
-use Rattle.refusals.specs.declared.Fault.TheVariants.{None}
 use Rattle.refusals.proofs.CheckLaws.{pass-both, passes, all_of}
 use Rattle.list_format.specs.Lists.{word, registers, pair_count, need_words, hold_at, setup_at, needs_of, pair_place, written_at}
 use Rattle.list_format.specs.Lists.{no_needs, value_checks}
@@ -160,7 +159,7 @@ module _ (ws : List ℕ) (l : ListIn ws) where
 
   -- the writer refuses none of it, and the order only where it is asked for
   checks-back : (asked : Bool) → (asked ≡ true → Ascends (written_at ws) (pair_count ws)) → (room : ℕ) → length ws ≤ room
-      → first_fault (write_checks asked (registers ws) (numbers_of ws) (needs_of ws) room) ≡ None
+      → first_fault (write_checks asked (registers ws) (numbers_of ws) (needs_of ws) room) ≡ no_fault
   checks-back asked a room h =
       pass-both (count_checks (registers ws) (length (numbers_of ws)) (length (needs_of ws))) _ counts
       (pass-both (each_check (given_need_checks (needs_of ws)) 0 (registers ws)) _ (all_of (given_need_checks (needs_of ws)) (registers ws) needs)
@@ -168,7 +167,7 @@ module _ (ws : List ℕ) (l : ListIn ws) where
       (all_of (given_checks asked (registers ws) (numbers_of ws) (needs_of ws)) (given_count (numbers_of ws)) each)
       (passes _ (le-ltb room (end_place (registers ws) (numbers_of ws) (needs_of ws) + 1) (omega (arith, l.head.size, count-is ws, needs-is)), tt))))
     where
-      counts : first_fault (count_checks (registers ws) (length (numbers_of ws)) (length (needs_of ws))) ≡ None
+      counts : first_fault (count_checks (registers ws) (length (numbers_of ws)) (length (needs_of ws))) ≡ no_fault
       counts =
           passes (count_checks (registers ws) (length (numbers_of ws)) (length (needs_of ws))) (
             no_difference (length (numbers_of ws) % 4) 0 (omega (arith, numbers-length ws)),
@@ -181,7 +180,7 @@ module _ (ws : List ℕ) (l : ListIn ws) where
             ),
           )
 
-      needs : (r : ℕ) → r < registers ws → first_fault (given_need_checks (needs_of ws) r) ≡ None
+      needs : (r : ℕ) → r < registers ws → first_fault (given_need_checks (needs_of ws) r) ≡ no_fault
       needs r b =
           let w = needs-within ws l r in
           passes (given_need_checks (needs_of ws) r) (
@@ -189,7 +188,7 @@ module _ (ws : List ℕ) (l : ListIn ws) where
             (le-ltb max_need (given_setup (needs_of ws) r) (rw (setup-is ws b) w.setup), tt),
           )
 
-      each : (k : ℕ) → k < given_count (numbers_of ws) → first_fault (given_checks asked (registers ws) (numbers_of ws) (needs_of ws) k) ≡ None
+      each : (k : ℕ) → k < given_count (numbers_of ws) → first_fault (given_checks asked (registers ws) (numbers_of ws) (needs_of ws) k) ≡ no_fault
       each k b =
           let below : k < pair_count ws = omega (arith, count-is ws) in
           let v = l.values k below in

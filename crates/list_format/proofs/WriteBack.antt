@@ -20,9 +20,8 @@ use Rattle.words.specs.Word.{needs_word, pair_word, end_word, checksum}
 use Rattle.words.proofs.WordLaws.{HeadIs, head-of-word, NeedsWordIs, needs-of-word, PairWordIs, pair-of-word, kind-of-word, payload-of-word}
 use Rattle.buffers.specs.Run.{run}
 use Rattle.buffers.proofs.RunLaws.{run_length, run_at, run_is, take-stretch}
-use Rattle.refusals.specs.Checks.{first_fault, each_check}
+use Rattle.refusals.specs.Checks.{first_fault, each_check, no_fault}
 use Rattle.refusals.specs.Reply.{done, unless}
-use Rattle.refusals.specs.declared.Fault.TheVariants.{None}
 use Rattle.refusals.proofs.CheckLaws.{both-pass, pass-both, passed, passes, each_of}
 use Rattle.list_format.specs.Lists.{word, registers, pair_count, need_words_by, need_words, hold_at, setup_at, two_at, needs_of, place_by}
 use Rattle.list_format.specs.Lists.{written_at, no_needs, value_checks, order_check, list_checks, WrittenIn}
@@ -58,10 +57,10 @@ module _ (n : ℕ) (ys : List ℕ) where
       go true = omega arith
       go false = omega arith
 
-module _ (asked : Bool) (n : ℕ) (xs ys : List ℕ) (room : ℕ) (e : first_fault (write_checks asked n xs ys room) ≡ None) where
+module _ (asked : Bool) (n : ℕ) (xs ys : List ℕ) (room : ℕ) (e : first_fault (write_checks asked n xs ys room) ≡ no_fault) where
   -- the checks of pair k: of its values, and of its order
   given-parts : (k : ℕ) → k < given_count xs
-      → (first_fault (value_checks n (given_hold ys (given_pair xs k).capture) (given_pair xs k) k k k) ≡ None)
+      → (first_fault (value_checks n (given_hold ys (given_pair xs k).capture) (given_pair xs k) k k k) ≡ no_fault)
       × (asked && not_above (given_pair xs) k ≡ false)
   given-parts k l =
       let body = both-pass (count_checks n (length xs) (length ys)) _ e in
@@ -89,7 +88,7 @@ module _ (asked : Bool) (n : ℕ) (xs ys : List ℕ) (room : ℕ) (e : first_fau
       }
 
 -- the order that was asked for
-pub given-rise : (n : ℕ) (xs ys : List ℕ) (room : ℕ) → first_fault (write_checks true n xs ys room) ≡ None → Ascends (given_pair xs) (given_count xs)
+pub given-rise : (n : ℕ) (xs ys : List ℕ) (room : ℕ) → first_fault (write_checks true n xs ys room) ≡ no_fault → Ascends (given_pair xs) (given_count xs)
 given-rise n xs ys room e = none_above (given_pair xs) (given_count xs) (λ k l. (given-parts true n xs ys room e k l).1)
 
 module _ (n : ℕ) (xs ys : List ℕ) (g : GivenIn n xs ys) where
@@ -315,7 +314,7 @@ module _ (n : ℕ) (xs ys : List ℕ) (g : GivenIn n xs ys) where
   unfolding reading unless
   write-back a room h = rw (checks, numbers-back, needs-back, head-is.registers, head-is.pairs)
     where
-      checks : first_fault (read_checks (words_of n xs ys) room) ≡ None
+      checks : first_fault (read_checks (words_of n xs ys) room) ≡ no_fault
       checks =
           let places = read_places (registers (words_of n xs ys)) (pair_count (words_of n xs ys)) in
           pass-both (list_checks (words_of n xs ys)) _ (list-pass (words_of n xs ys) true list_back (λ e. ascends_back a))

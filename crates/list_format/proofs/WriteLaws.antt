@@ -10,20 +10,18 @@ use Rattle.words.specs.Word.{head_word, end_word, checksum}
 use Rattle.buffers.specs.Run.{run}
 use Rattle.buffers.specs.Over.{over}
 use Rattle.buffers.proofs.FillLaws.{Filled, filled-size, filled_put, set-put, over-more}
-use Rattle.refusals.specs.Checks.{first_fault, each_check}
+use Rattle.refusals.specs.Checks.{first_fault, each_check, no_fault, Fault}
 use Rattle.refusals.specs.Reply.{refused, done, reply_of, buffer_after, unless}
-use Rattle.refusals.specs.declared.Fault.{Fault}
-use Rattle.refusals.specs.declared.Fault.TheVariants.{None, At}
 use Rattle.refusals.proofs.CheckLaws.{both-pass, passed}
 use Rattle.refusals.proofs.ReplyLaws.{answered-refused, answered-done}
 use Rattle.list_format.specs.Read.{reading}
 use Rattle.list_format.specs.Write.{given_count, given_pair, given_needs, one_of, three_of, open_head, open_list, words_of, end_place}
-use Rattle.list_format.specs.Write.{count_checks, given_need_checks, given_checks, given_pairs, given_body, write_checks, writing_by, write_reply, GivenIn}
+use Rattle.list_format.specs.Write.{Writing, count_checks, given_need_checks, given_checks, given_pairs, given_body, write_checks, writing_by, write_reply, GivenIn}
 use Rattle.list_format.specs.RoundTrip.{WrittenBy, WrittenAs}
 use mathlib.Core.Bool.{Bool, true}
-use Rattle.list_format.specs.declared.Writing.{Writing}
-use Rattle.list_format.specs.declared.Writing.TheVariants.{Written, Refused}
 use Rattle.list_format.proofs.WriteBack.{given-in, given-rise, head-length, open-length, words-length, write-back}
+use Rattle.std.specs.Prelude.{Ok, Err}
+use Rattle.refusals.specs.declared.Refused.{Refused}
 
 module _ (n : ℕ) (xs ys was : List ℕ) where
   -- the head with its words of needs, and then the pairs
@@ -51,14 +49,14 @@ module _ (n : ℕ) (xs ys was : List ℕ) where
 
   module _ (asked : Bool) where
     -- a refusal changes nothing
-    pub write-refused : {number place : ℕ} → first_fault (write_checks asked n xs ys (length was)) ≡ At number place
-        → WrittenBy asked n xs ys was was (Refused number place)
+    pub write-refused : {r : Refused} → first_fault (write_checks asked n xs ys (length was)) ≡ Err r
+        → WrittenBy asked n xs ys was was (Err r)
     unfolding writing_by reply_of buffer_after write_reply
     write-refused e =
         let r : writing_by asked n xs ys (length was) ≡ refused _ _ = answered-refused (write_checks asked n xs ys (length was)) _ e in
         record { reply = rw r; stored = rw r }
 
-    module _ (none : first_fault (write_checks asked n xs ys (length was)) ≡ None) where
+    module _ (none : first_fault (write_checks asked n xs ys (length was)) ≡ no_fault) where
       -- there is room
       pub write-room : end_place n xs ys < length was
       write-room =
@@ -69,7 +67,7 @@ module _ (n : ℕ) (xs ys was : List ℕ) where
 
       -- the list is stored
       pub write_done : (now : List ℕ) (count : ℕ) → count ≡ end_place n xs ys + 1 → now ≡ over (words_of n xs ys) was
-          → WrittenBy asked n xs ys was now (Written count)
+          → WrittenBy asked n xs ys was now (Ok count)
       unfolding writing_by reply_of buffer_after write_reply
       write_done now count c s =
           let checks = write_checks asked n xs ys (length was) in
@@ -79,14 +77,14 @@ module _ (n : ℕ) (xs ys was : List ℕ) where
   -- ---- what is written with the order asked for reads back
 
   written_back : (f : Fault) (now : List ℕ) (k : ℕ) → first_fault (write_checks true n xs ys (length was)) ≡ f
-      → write_reply (Written k) ≡ reply_of (unless f (done ((end_place n xs ys + 1) ∷ []) (words_of n xs ys)))
+      → write_reply (Ok k) ≡ reply_of (unless f (done ((end_place n xs ys + 1) ∷ []) (words_of n xs ys)))
       → now ≡ buffer_after (unless f (done ((end_place n xs ys + 1) ∷ []) (words_of n xs ys))) was → (room : ℕ) → length xs + length ys ≤ room
       → reading (take k now) room ≡ done (n ∷ given_count xs ∷ []) (xs ++ ys)
   unfolding reply_of buffer_after write_reply unless
-  written_back (At number place) now k e r s room h =
+  written_back (Err why) now k e r s room h =
       let z : ◌≡◌ {A = ℕ} 0 1 = cc in
       absurd (omega arith)
-  written_back None now k e r s room h =
+  written_back (Ok u) now k e r s room h =
       let g = given-in true n xs ys (length was) e in
       let count : k ≡ end_place n xs ys + 1 = cc in
       let size : length (words_of n xs ys) ≡ k = words-length n xs ys g ∙ sym count in
@@ -96,7 +94,7 @@ module _ (n : ℕ) (xs ys was : List ℕ) where
   unfolding writing_by
   write-back-as {now} {r} w = record { reply = w.reply; stored = w.stored; back = again }
     where
-      again : (k : ℕ) → r ≡ Written k → (room : ℕ) → length xs + length ys ≤ room
+      again : (k : ℕ) → r ≡ Ok k → (room : ℕ) → length xs + length ys ≤ room
           → reading (take k now) room ≡ done (n ∷ given_count xs ∷ []) (xs ++ ys)
       again k e room h =
           written_back (first_fault (write_checks true n xs ys (length was))) now k refl (rw e at w.reply) w.stored room h

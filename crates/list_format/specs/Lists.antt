@@ -1,7 +1,7 @@
 -- A delay list is a run of 32-bit words: head, then a word of needs for each register or none at all, then three words for each pair, then
 -- the end word.
 -- This file says where a pair stands, which run of words is refused and why, and what an accepted one says.
-use Rattle.std.specs.Prelude.{ℕ, zero, suc, ◌+◌, ◌-◌, ◌*◌, ◌^◌, ◌<◌, ◌≤◌, Bool, true, false, not, cond, ◌&&◌, List, [], ◌∷◌, ◌++◌, ◌≡◌, ltb, leb, eqb, length, get_or, take}
+use Rattle.std.specs.Prelude.{ℕ, zero, suc, ◌+◌, ◌-◌, ◌*◌, ◌^◌, ◌<◌, ◌≤◌, Bool, true, false, not, cond, ◌&&◌, List, [], ◌∷◌, ◌++◌, ◌≡◌, ltb, leb, eqb, length, get_or, take, Result, Ok, Err}
 use Rattle.timing.specs.declared.Pair.{Pair}
 use Rattle.timing.specs.Rules.{pair}
 use Rattle.timing.specs.Limits.{max_registers, max_pairs, max_delay, max_need, max_period}
@@ -9,11 +9,10 @@ use Rattle.words.specs.Word.{payload_bits, kind_head, kind_pair, kind_least, kin
 use Rattle.words.specs.Word.{head_pairs, head_registers, head_spare, launch_of, capture_of, pair_spare, hold_of, setup_of, needs_spare}
 use Rattle.ordering.specs.Order.{not_above}
 use Rattle.buffers.specs.Run.{run}
-use Rattle.refusals.specs.Checks.{Check, first_fault, each_check}
-use Rattle.refusals.specs.declared.Fault.{Fault}
-use Rattle.refusals.specs.declared.Fault.TheVariants.{None, At}
-use Rattle.list_format.specs.declared.Verdict.{Verdict}
-use Rattle.list_format.specs.declared.Verdict.TheVariants.{Accepted, Refused}
+use Rattle.refusals.specs.Checks.{Check, first_fault, each_check, Fault}
+use Rattle.refusals.specs.declared.Refused.{Refused}
+use Rattle.list_format.specs.declared.Counts.{Counts}
+use Rattle.refusals.specs.declared.Refusal.TheVariants.{Length, Size, Word, Register, Delay, Crossed, Sum, NoNeeds, Hold, Order}
 
 -- ---- what the words say
 
@@ -100,22 +99,22 @@ differ a b = not (eqb a b)
 -- 11: fewer than two words. 12: the head word. 11: not as many words as the head and the word after it ask for
 abbrev pub head_checks : ℕ → ℕ → ℕ → List Check
 head_checks head second len =
-    (ltb len 2, 11, 0)
-    ∷ (differ (kind_of head) kind_head, 12, 0)
-    ∷ (differ (head_spare head) 0, 12, 0)
-    ∷ (eqb (head_registers head) 0, 12, 0)
-    ∷ (ltb max_registers (head_registers head), 12, 0)
-    ∷ (ltb max_pairs (head_pairs head), 12, 0)
-    ∷ (differ len (place_by (need_words_by head second) (head_pairs head) + 1), 11, 0)
+    (ltb len 2, Length, 0)
+    ∷ (differ (kind_of head) kind_head, Size, 0)
+    ∷ (differ (head_spare head) 0, Size, 0)
+    ∷ (eqb (head_registers head) 0, Size, 0)
+    ∷ (ltb max_registers (head_registers head), Size, 0)
+    ∷ (ltb max_pairs (head_pairs head), Size, 0)
+    ∷ (differ len (place_by (need_words_by head second) (head_pairs head) + 1), Length, 0)
     ∷ []
 
 -- 13: the word of needs of register r
 abbrev pub need_checks : List ℕ → ℕ → List Check
 need_checks ws r =
-    (differ (kind_of (word ws (1 + r))) kind_needs, 13, 1 + r)
-    ∷ (differ (needs_spare (word ws (1 + r))) 0, 13, 1 + r)
-    ∷ (ltb max_need (hold_of (word ws (1 + r))), 13, 1 + r)
-    ∷ (ltb max_need (setup_of (word ws (1 + r))), 13, 1 + r)
+    (differ (kind_of (word ws (1 + r))) kind_needs, Word, 1 + r)
+    ∷ (differ (needs_spare (word ws (1 + r))) 0, Word, 1 + r)
+    ∷ (ltb max_need (hold_of (word ws (1 + r))), Word, 1 + r)
+    ∷ (ltb max_need (setup_of (word ws (1 + r))), Word, 1 + r)
     ∷ []
 
 -- whether all needs are 0
@@ -125,27 +124,27 @@ no_needs (x ∷ xs) = eqb x 0 && no_needs xs
 
 -- so many words of needs, one by one. 18: they are there, and all needs are 0
 abbrev pub block_checks : List ℕ → ℕ → List Check
-block_checks ws needs = each_check (need_checks ws) 0 needs ++ ((ltb 0 needs && no_needs (needs_of ws), 18, 1) ∷ [])
+block_checks ws needs = each_check (need_checks ws) 0 needs ++ ((ltb 0 needs && no_needs (needs_of ws), NoNeeds, 1) ∷ [])
 
 -- 13: the three words of a pair, of which the first stands at `at`
 abbrev pub kind_checks : ℕ → ℕ → ℕ → ℕ → List Check
 kind_checks p least greatest at =
-    (differ (kind_of p) kind_pair, 13, at)
-    ∷ (differ (pair_spare p) 0, 13, at)
-    ∷ (differ (kind_of least) kind_least, 13, at + 1)
-    ∷ (differ (kind_of greatest) kind_greatest, 13, at + 2)
+    (differ (kind_of p) kind_pair, Word, at)
+    ∷ (differ (pair_spare p) 0, Word, at)
+    ∷ (differ (kind_of least) kind_least, Word, at + 1)
+    ∷ (differ (kind_of greatest) kind_greatest, Word, at + 2)
     ∷ []
 
 -- 14: a register not below n. 15: a delay above the limit. 16: least above greatest. 19: least below the hold of the capture register.
 -- The three places are those to name for the registers, for the least and for the greatest delay
 abbrev pub value_checks : ℕ → ℕ → Pair → ℕ → ℕ → ℕ → List Check
 value_checks n hold p at least_at greatest_at =
-    (leb n p.launch, 14, at)
-    ∷ (leb n p.capture, 14, at)
-    ∷ (ltb max_delay p.least, 15, least_at)
-    ∷ (ltb max_delay p.greatest, 15, greatest_at)
-    ∷ (ltb p.greatest p.least, 16, greatest_at)
-    ∷ (ltb p.least hold, 19, least_at)
+    (leb n p.launch, Register, at)
+    ∷ (leb n p.capture, Register, at)
+    ∷ (ltb max_delay p.least, Delay, least_at)
+    ∷ (ltb max_delay p.greatest, Delay, greatest_at)
+    ∷ (ltb p.greatest p.least, Crossed, greatest_at)
+    ∷ (ltb p.least hold, Hold, least_at)
     ∷ []
 
 -- pair k of a list with n registers, but for its order
@@ -156,7 +155,7 @@ own_checks ws n k =
 
 -- 20: pair k is not above the one before it, by launch and then capture; a list that is still to be ordered is not asked for this
 abbrev pub order_check : Bool → (ℕ → Pair) → ℕ → ℕ → Check
-order_check asked f k at = (asked && not_above f k, 20, at)
+order_check asked f k at = (asked && not_above f k, Order, at)
 
 -- all checks of pair k
 abbrev pub pair_checks : Bool → List ℕ → ℕ → ℕ → List Check
@@ -165,8 +164,8 @@ pair_checks asked ws n k = own_checks ws n k ++ (order_check asked (written_at w
 -- 13 and 17: the end word, which stands at `at`
 abbrev pub end_checks : List ℕ → ℕ → List Check
 end_checks ws at =
-    (differ (kind_of (word ws at)) kind_end, 13, at)
-    ∷ (differ (payload_of (word ws at)) (checksum (take at ws)), 17, at)
+    (differ (kind_of (word ws at)) kind_end, Word, at)
+    ∷ (differ (payload_of (word ws at)) (checksum (take at ws)), Sum, at)
     ∷ []
 
 -- the pairs of a list of n registers and m pairs, one by one, then the end
@@ -191,9 +190,19 @@ stored_checks = checks_by false
 
 -- ---- the verdict
 
+-- the counts of an accepted list, or the first refusal with its place
+abbrev pub Verdict : Type 0
+Verdict = Result Counts Refused
+
+abbrev pub counts : ℕ → ℕ → Counts
+counts n m = record { registers = n; pairs = m }
+
+abbrev pub accepted : ℕ → ℕ → Verdict
+accepted n m = Ok (counts n m)
+
 unfoldable pub judged : List ℕ → Fault → Verdict
-judged ws None = Accepted (registers ws) (pair_count ws)
-judged ws (At number place) = Refused number place
+judged ws (Ok u) = accepted (registers ws) (pair_count ws)
+judged ws (Err r) = Err r
 
 -- the first refusal with its place, or the counts
 unfoldable pub verdict_by : Bool → List ℕ → Verdict
@@ -221,7 +230,7 @@ pub record WrittenIn (n hold : ℕ) (p : Pair) : Type 0 where
 
 -- an accepted list
 abbrev pub IsAccepted : List ℕ → Type 0
-IsAccepted ws = verdict ws ≡ Accepted (registers ws) (pair_count ws)
+IsAccepted ws = verdict ws ≡ accepted (registers ws) (pair_count ws)
 
 -- an accepted list with its counts: n registers and m pairs
 pub record AcceptedList (ws : List ℕ) (n m : ℕ) : Type 0 where

@@ -1,15 +1,15 @@
 -- Writing a delay list from plain numbers: n, launch, capture, least and greatest of each pair, and hold and setup of each register.
-use Rattle.std.specs.Prelude.{ℕ, ◌+◌, ◌*◌, ◌/◌, ◌%◌, ◌^◌, ◌<◌, ◌≤◌, Bool, true, cond, List, [], ◌∷◌, ◌++◌, ◌≡◌, ltb, eqb, length, get_or}
+use Rattle.std.specs.Prelude.{ℕ, ◌+◌, ◌*◌, ◌/◌, ◌%◌, ◌^◌, ◌<◌, ◌≤◌, Bool, true, cond, List, [], ◌∷◌, ◌++◌, ◌≡◌, ltb, eqb, length, get_or, Result, Ok, Err}
 use Rattle.timing.specs.declared.Pair.{Pair}
 use Rattle.timing.specs.Rules.{pair}
 use Rattle.timing.specs.Limits.{max_registers, max_pairs, max_need}
 use Rattle.words.specs.Word.{register_bits, payload_bits, need_bits, head_word, needs_word, pair_word, least_word, greatest_word, end_word, checksum}
 use Rattle.buffers.specs.Run.{run}
 use Rattle.refusals.specs.Checks.{Check, each_check}
-use Rattle.refusals.specs.Reply.{Reply, refusal, numbers, Outcome, done, answered}
+use Rattle.refusals.specs.Reply.{Reply, refusal_of, numbers, Outcome, done, answered}
 use Rattle.list_format.specs.Lists.{place_by, differ, no_needs, value_checks, order_check, NeedsIn, WrittenIn}
-use Rattle.list_format.specs.declared.Writing.{Writing}
-use Rattle.list_format.specs.declared.Writing.TheVariants.{Written, Refused}
+use Rattle.refusals.specs.declared.Refused.{Refused}
+use Rattle.refusals.specs.declared.Refusal.TheVariants.{Room, Length, Size, Word}
 
 -- m, the count of pairs that the numbers make
 abbrev pub given_count : List ℕ → ℕ
@@ -78,16 +78,16 @@ end_place n xs ys = place_by (given_needs n ys) (given_count xs)
 -- 11: the numbers are not four for each pair. 12: n or m out of range. 11: the needs are not two for each register
 abbrev pub count_checks : ℕ → ℕ → ℕ → List Check
 count_checks n len needs =
-    (differ (len % 4) 0, 11, 0)
-    ∷ (eqb n 0, 12, 0)
-    ∷ (ltb max_registers n, 12, 0)
-    ∷ (ltb max_pairs (len / 4), 12, 0)
-    ∷ (differ needs (2 * n), 11, 0)
+    (differ (len % 4) 0, Length, 0)
+    ∷ (eqb n 0, Size, 0)
+    ∷ (ltb max_registers n, Size, 0)
+    ∷ (ltb max_pairs (len / 4), Size, 0)
+    ∷ (differ needs (2 * n), Length, 0)
     ∷ []
 
 -- 13, the place being the register
 abbrev pub given_need_checks : List ℕ → ℕ → List Check
-given_need_checks ys r = (ltb max_need (given_hold ys r), 13, r) ∷ (ltb max_need (given_setup ys r), 13, r) ∷ []
+given_need_checks ys r = (ltb max_need (given_hold ys r), Word, r) ∷ (ltb max_need (given_setup ys r), Word, r) ∷ []
 
 -- 14, 15, 16, 19, 20, the place being the pair's index; 20 where the order is asked for
 abbrev pub given_checks : Bool → ℕ → List ℕ → List ℕ → ℕ → List Check
@@ -96,7 +96,7 @@ given_checks asked n xs ys k =
 
 -- all m pairs, then 2: an answer buffer with no place for the end word
 abbrev pub given_pairs : Bool → ℕ → List ℕ → List ℕ → ℕ → ℕ → List Check
-given_pairs asked n xs ys m room = each_check (given_checks asked n xs ys) 0 m ++ ((ltb room (place_by (given_needs n ys) m + 1), 2, 0) ∷ [])
+given_pairs asked n xs ys m room = each_check (given_checks asked n xs ys) 0 m ++ ((ltb room (place_by (given_needs n ys) m + 1), Room, 0) ∷ [])
 
 -- all n registers, then the pairs and the room
 abbrev pub given_body : Bool → ℕ → List ℕ → List ℕ → ℕ → ℕ → List Check
@@ -122,7 +122,11 @@ writing_by asked n xs ys room = answered (write_checks asked n xs ys room) (done
 abbrev pub writing : ℕ → List ℕ → List ℕ → ℕ → Outcome
 writing = writing_by true
 
+-- the count of words, or a refusal with its place
+abbrev pub Writing : Type 0
+Writing = Result ℕ Refused
+
 -- the number and values of each case of the answer
 unfoldable pub write_reply : Writing → Reply
-write_reply (Written count) = numbers (count ∷ [])
-write_reply (Refused number place) = refusal number place
+write_reply (Ok count) = numbers (count ∷ [])
+write_reply (Err r) = refusal_of r

@@ -2,14 +2,15 @@
 // They are a hint only, and nothing is promised of them.
 #![tactic(auto)]
 
-ghost use Rattle.std.specs.Prelude.{◌≡◌, ◌^◌, ◌<◌};
+ghost use Rattle.std.specs.Prelude.{◌≡◌, ◌^◌, ◌<◌, ◌≤◌};
+ghost use Rattle.std.specs.Iterator.{at_most};
 ghost use Rattle.list_format.specs.Lists.{pair_count, IsUsable};
 
 use timing::MAX_PAIRS;
 
 pub const REGISTERS: usize = timing::MAX_REGISTERS as usize;
 
-// A pair has two ends: 2k + 1 is the launch of pair k, 2k + 2 its capture; 0 is none.
+// A pair has two ends: 2k is the launch of pair k, 2k + 1 its capture.
 pub const ENDS: usize = 2 * MAX_PAIRS;
 
 // Lists of so many pairs, and places for their ends, which are filled in less time.
@@ -17,55 +18,88 @@ pub const FEW_PAIRS: usize = 128;
 
 pub const FEW_ENDS: usize = 2 * FEW_PAIRS;
 
-// What stands where no end has been put: no end is before it.
+// What stands where no end has been put: nothing is before it.
 pub const NONE: u16 = 0x1FFF;
 
-// Ends i + 1 and i + 2 are put at registers a and b, after the ends that are there.
+// Ends i and i + 1 are put at registers a and b, after the ends that are there.
 fn join(a: usize, b: usize, i: usize, lasts: &mut [u16; REGISTERS], before: &mut [u16])
     requires { i < 2 ^ 15 }
 {
     let j = i + 1;
     if j < before.len() {
         before[i] = lasts[a % REGISTERS];
-        lasts[a % REGISTERS] = (i + 1) as u16;
+        lasts[a % REGISTERS] = j as u16;
         before[j] = lasts[b % REGISTERS];
         lasts[b % REGISTERS] = (j + 1) as u16;
     }
 }
 
-// Both ends of every pair: lasts[r] is the last end at register r, before[e - 1] the one before end e.
-pub fn link(words: &[u32], count: usize, lasts: &mut [u16; REGISTERS], before: &mut [u16])
-    requires usable { IsUsable words.now }
-    requires count_value { count ≡ pair_count words.now }
-{
-    let mut k = 0;
-    while k < count {
-        let p = delay_list::pair_at(words, k);
-        let first = 2 * (k % MAX_PAIRS);
-        join(p.launch as usize, p.capture as usize, first, lasts, before);
-        k += 1;
+// The ends of the pairs: lasts[r] is 1 more than the last end at register r, before[e] 1 more than the one before end e, and 0
+// stands for none.
+#[derive(Clone, Copy)]
+pub struct Ends<'a> {
+    pub lasts: &'a [u16; REGISTERS],
+    pub before: &'a [u16],
+}
+
+impl<'a> Ends<'a> {
+    // The ends at register r, the last put first: 2k is the launch of pair k, 2k + 1 its capture.
+    pub fn at(self, r: usize) -> EndsAt<'a> {
+        EndsAt {
+            before: self.before,
+            next: self.lasts[r % REGISTERS],
+        }
     }
 }
 
-// A number of 16 bits from an array.
-pub fn wide(x: u16) -> usize {
-    x as usize
+// The ends at a register that are left of a walk: `next` is 1 more than the first of them, or 0 if none is left.
+#[derive(Clone, Copy)]
+pub struct EndsAt<'a> {
+    before: &'a [u16],
+    next: u16,
 }
 
-// The last end at register r.
-pub fn last_at(lasts: &[u16; REGISTERS], r: usize) -> usize {
-    wide(lasts[r % REGISTERS])
+impl<'a> Iterator for EndsAt<'a> {
+    type Item = u16;
+
+    ghost remaining = { λ s. at_most s.next };
+
+    fn next(&mut self) -> Option<u16> {
+        if self.next == 0 {
+            return None;
+        }
+        let end = self.next - 1;
+        self.next = left_of(self.before, end);
+        Some(end)
+    }
 }
 
-// The end before an end at its register, a smaller one or none.
-pub fn end_before(before: &[u16], end: usize) -> usize
-    requires { 0 < end }
-    ensures { result < end }
+// What is left after an end: only ends that are smaller, so that a walk comes to an end whatever the places hold.
+fn left_of(before: &[u16], end: u16) -> u16
+    ensures { result ≤ end }
 {
-    let i = end - 1;
+    let i = usize::from(end);
     if i >= before.len() {
         return 0;
     }
-    let e = wide(before[i]);
-    if e < end { e } else { 0 }
+    let next = before[i];
+    if next <= end { next } else { 0 }
+}
+
+// Both ends of every pair are put in the places lent.
+pub fn link<'a>(
+    words: &[u32],
+    count: usize,
+    lasts: &'a mut [u16; REGISTERS],
+    before: &'a mut [u16],
+) -> Ends<'a>
+    requires usable { IsUsable words.now }
+    requires count_value { count ≡ pair_count words.now }
+{
+    for k in 0..count {
+        let p = delay_list::pair_at(words, k);
+        let first = 2 * (k % MAX_PAIRS);
+        join(p.launch as usize, p.capture as usize, first, lasts, before);
+    }
+    Ends { lasts, before }
 }

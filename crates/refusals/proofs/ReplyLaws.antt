@@ -5,46 +5,47 @@ use mathlib.Core.Bool.{Bool, true, false}
 use mathlib.Core.List.{List, [], ◌∷◌, ◌++◌}
 use mathlib.Core.Path.{◌≡◌, refl, ◌∙◌}
 use Rattle.buffers.specs.Over.{over}
-use Rattle.refusals.specs.Checks.{Check, or_check, fault_after, first_fault}
+use Rattle.std.specs.Prelude.{Ok, Err}
+use Rattle.refusals.specs.Checks.{Check, Fault, no_fault, number_of, refused_at, or_check, fault_after, first_fault}
+use Rattle.refusals.specs.declared.Refusal.{Refusal}
+use Rattle.refusals.specs.declared.Refused.{Refused}
 use Rattle.refusals.specs.Reply.{refusal, numbers, Outcome, refused, done, reply_of, buffer_after, told, answered, unless}
-use Rattle.refusals.specs.declared.Fault.{Fault}
-use Rattle.refusals.specs.declared.Fault.TheVariants.{None, At}
 use Rattle.refusals.proofs.CheckLaws.{stop-first, pass-first}
 
 -- a single check
-pub one-fails : {b : Bool} {number place : ℕ} → b ≡ true → first_fault ((b, number, place) ∷ []) ≡ At number place
+pub one-fails : {b : Bool} {why : Refusal} {place : ℕ} → b ≡ true → first_fault ((b, why, place) ∷ []) ≡ Err (refused_at why place)
 unfolding or_check fault_after
 one-fails e = rw e
 
-pub one_passes : {b : Bool} (number place : ℕ) → b ≡ false → first_fault ((b, number, place) ∷ []) ≡ None
+pub one_passes : {b : Bool} (why : Refusal) (place : ℕ) → b ≡ false → first_fault ((b, why, place) ∷ []) ≡ no_fault
 unfolding or_check fault_after
-one_passes number place e = rw e
+one_passes why place e = rw e
 
 module _ (cs : List Check) (o : Outcome) where
-  pub answered-refused : {number place : ℕ} → first_fault cs ≡ At number place → answered cs o ≡ refused number place
+  pub answered-refused : {r : Refused} → first_fault cs ≡ Err r → answered cs o ≡ refused (number_of r.refusal) r.place
   unfolding unless
   answered-refused e = rw e
 
-  pub answered-done : first_fault cs ≡ None → answered cs o ≡ o
+  pub answered-done : first_fault cs ≡ no_fault → answered cs o ≡ o
   unfolding unless
   answered-done e = rw e
 
 -- checks of the list, then checks of the call
 module _ (xs ys : List Check) (o : Outcome) where
-  pub first-refused : {number place : ℕ} → first_fault xs ≡ At number place → answered (xs ++ ys) o ≡ refused number place
+  pub first-refused : {r : Refused} → first_fault xs ≡ Err r → answered (xs ++ ys) o ≡ refused (number_of r.refusal) r.place
   first-refused e = answered-refused (xs ++ ys) o (stop-first xs ys e)
 
-  pub then-refused : {number place : ℕ} → first_fault xs ≡ None → first_fault ys ≡ At number place → answered (xs ++ ys) o ≡ refused number place
+  pub then-refused : {r : Refused} → first_fault xs ≡ no_fault → first_fault ys ≡ Err r → answered (xs ++ ys) o ≡ refused (number_of r.refusal) r.place
   then-refused e f = answered-refused (xs ++ ys) o (pass-first xs ys e ∙ f)
 
-  pub then-done : first_fault xs ≡ None → first_fault ys ≡ None → answered (xs ++ ys) o ≡ o
+  pub then-done : first_fault xs ≡ no_fault → first_fault ys ≡ no_fault → answered (xs ++ ys) o ≡ o
   then-done e f = answered-done (xs ++ ys) o (pass-first xs ys e ∙ f)
 
 -- numbers are returned only where no check fails
-pub numbers-none : (f : Fault) (o : Outcome) {xs : List ℕ} → numbers xs ≡ reply_of (unless f o) → f ≡ None
+pub numbers-none : (f : Fault) (o : Outcome) {xs : List ℕ} → numbers xs ≡ reply_of (unless f o) → f ≡ no_fault
 unfolding reply_of unless
-numbers-none None o e = refl
-numbers-none (At number place) o e =
+numbers-none (Ok u) o e = refl
+numbers-none (Err r) o e =
     let z : ◌≡◌ {A = ℕ} 0 1 = cc in
     absurd (omega arith)
 

@@ -1,17 +1,51 @@
 -- A run of checks: the first that fails decides.
-use Rattle.std.specs.Prelude.{ℕ, zero, suc, ◌+◌, Bool, true, false, List, [], ◌∷◌, ◌++◌}
-use Rattle.refusals.specs.declared.Fault.{Fault}
-use Rattle.refusals.specs.declared.Fault.TheVariants.{None, At}
+use Rattle.std.specs.Prelude.{ℕ, zero, suc, ◌+◌, Bool, true, false, List, [], ◌∷◌, ◌++◌, Result, Ok, Err}
+use Rattle.refusals.specs.declared.Refusal.{Refusal}
+use Rattle.refusals.specs.declared.Refusal.TheVariants.{Scratch, Room, Call, Length, Size, Word, Register, Delay, Crossed, Sum}
+use Rattle.refusals.specs.declared.Refusal.TheVariants.{NoNeeds, Hold, Order, Unlike, Pairs}
+use Rattle.refusals.specs.declared.Refused.{Refused}
 
--- a check: whether it fails, and the refusal's number and place if it does
+-- the number by which the papers know a refusal
+unfoldable pub number_of : Refusal → ℕ
+number_of Scratch = 1
+number_of Room = 2
+number_of Call = 3
+number_of Length = 11
+number_of Size = 12
+number_of Word = 13
+number_of Register = 14
+number_of Delay = 15
+number_of Crossed = 16
+number_of Sum = 17
+number_of NoNeeds = 18
+number_of Hold = 19
+number_of Order = 20
+number_of Unlike = 21
+number_of Pairs = 22
+
+-- a check: whether it fails, and the refusal with its place if it does
 abbrev pub Check : Type 0
-Check = Bool × ℕ × ℕ
+Check = Bool × Refusal × ℕ
 
--- one check more, which counts where none before it failed
+-- what a run of checks finds: nothing, or the first refusal with its place
+abbrev pub Fault : Type 0
+Fault = Result (Unit {0}) Refused
+
+abbrev pub no_fault : Fault
+no_fault = Ok tt
+
+abbrev pub refused_at : Refusal → ℕ → Refused
+refused_at refusal place = record { refusal = refusal; place = place }
+
+-- one check more, which counts where no_fault before it failed
 unfoldable pub or_check : Fault → Check → Fault
-or_check (At number place) c = At number place
-or_check None (true, number, place) = At number place
-or_check None (false, number, place) = None
+or_check (Err r) c = Err r
+or_check (Ok u) (true, refusal, place) = Err (refused_at refusal place)
+or_check (Ok u) (false, refusal, place) = Ok u
+
+-- what one check finds
+abbrev pub checked : Check → Fault
+checked = or_check no_fault
 
 -- what a run of checks finds after f
 unfoldable pub fault_after : Fault → List Check → Fault
@@ -20,12 +54,12 @@ fault_after f (c ∷ cs) = fault_after (or_check f c) cs
 
 -- the first of a run of checks that fails
 abbrev pub first_fault : List Check → Fault
-first_fault = fault_after None
+first_fault = fault_after no_fault
 
 -- what one run of checks finds, or else another
 unfoldable pub then_fault : Fault → Fault → Fault
-then_fault (At number place) g = At number place
-then_fault None g = g
+then_fault (Err r) g = Err r
+then_fault (Ok u) g = g
 
 -- the checks f i, f (i + 1), .. of so many things, one after the other
 unfoldable pub each_check : (ℕ → List Check) → ℕ → ℕ → List Check

@@ -1,14 +1,17 @@
 -- What a call comes to: a refusal, or the numbers returned and what the answer buffer then holds.
-use Rattle.std.specs.Prelude.{ℕ, List}
+use Rattle.std.specs.Prelude.{ℕ, List, Ok, Err}
 use Rattle.buffers.specs.Over.{over, zeros}
-use Rattle.refusals.specs.Checks.{Check, first_fault}
-use Rattle.refusals.specs.declared.Fault.{Fault}
-use Rattle.refusals.specs.declared.Fault.TheVariants.{None, At}
+use Rattle.refusals.specs.Checks.{Check, Fault, number_of, first_fault}
+use Rattle.refusals.specs.declared.Refused.{Refused}
 
 -- what a caller is told: a refusal's number and place, or the numbers returned
 pub data Reply : Type 0 where
   refusal : ℕ → ℕ → Reply
   numbers : List ℕ → Reply
+
+-- a refusal by its number
+abbrev pub refusal_of : Refused → Reply
+refusal_of r = refusal (number_of r.refusal) r.place
 
 -- what a call comes to: with the numbers returned, what stands in the first places of the answer buffer
 pub data Outcome : Type 0 where
@@ -36,8 +39,8 @@ told f g (done returned stored) = g returned stored
 
 -- the first check that fails refuses; else the outcome
 unfoldable pub unless : Fault → Outcome → Outcome
-unless (At number place) o = refused number place
-unless None o = o
+unless (Err r) o = refused (number_of r.refusal) r.place
+unless (Ok u) o = o
 
 abbrev pub answered : List Check → Outcome → Outcome
 answered cs o = unless (first_fault cs) o

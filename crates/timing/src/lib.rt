@@ -34,7 +34,7 @@ pub const PER_PAIR: usize = 4;
 pub const MAX_SCRATCH: usize = PER_REGISTER * MAX_REGISTERS as usize + PER_PAIR * MAX_PAIRS;
 
 // The launch and the capture register, and the least and the greatest delay between them.
-#[derive(Clone, Copy)]
+#[derive(Clone, Copy, Debug, PartialEq, Eq)]
 pub struct Pair {
     pub launch: u32,
     pub capture: u32,
@@ -84,18 +84,18 @@ pub fn scratch_places(n: usize, m: usize) -> usize
 pub fn larger(a: u32, b: u32) -> u32
     ensures { result ≡ max a b }
 {
-    if a < b { b } else { a }
+    a.max(b)
 }
 
 pub fn smaller(a: u32, b: u32) -> u32
     ensures { result ≡ min a b }
 {
-    if a < b { a } else { b }
+    a.min(b)
 }
 
 // a - b, or 0 where b is more.
 pub fn less(a: u32, b: u32) -> u32
     ensures { result ≡ a - b }
 {
-    if b < a { a - b } else { 0 }
+    a.saturating_sub(b)
 }

@@ -1,5 +1,7 @@
 -- The 32-bit words of a delay list: their fields, how they are made, and the checksum.
 use Rattle.std.specs.Prelude.{ℕ, ◌+◌, ◌-◌, ◌*◌, ◌/◌, ◌%◌, ◌^◌, List, [], ◌∷◌}
+use Rattle.words.specs.declared.WordKind.{WordKind}
+use Rattle.words.specs.declared.WordKind.TheVariants.{Head, Pair, Least, Greatest, Needs, End}
 
 -- ---- widths, in bits
 
@@ -41,6 +43,14 @@ kind_needs = 5
 
 abbrev pub kind_end : ℕ
 kind_end = 7
+
+abbrev pub kind_number : WordKind → ℕ
+kind_number Head = kind_head
+kind_number Pair = kind_pair
+kind_number Least = kind_least
+kind_number Greatest = kind_greatest
+kind_number Needs = kind_needs
+kind_number End = kind_end
 
 -- ---- fields
 

@@ -3,17 +3,10 @@ ghost use Rattle.std.specs.Prelude.{◌≡◌, ◌+◌, ◌*◌, ◌≤◌, ◌+
 ghost use Rattle.buffers.specs.Over.{over};
 ghost use Rattle.words.specs.Bytes.{from_bytes, bytes_of, to_words, to_bytes};
 
-// A byte holds this many values. The second byte of a word counts in these, the third and the fourth in the next two.
-const BYTE: u32 = 0x100;
-
-const THIRD: u32 = BYTE * BYTE;
-
-const FOURTH: u32 = THIRD * BYTE;
-
 fn from_bytes(a: u8, b: u8, c: u8, d: u8) -> u32
     ensures { result ≡ from_bytes a b c d }
 {
-    (a as u32) + (b as u32) * BYTE + (c as u32) * THIRD + (d as u32) * FOURTH
+    u32::from_le_bytes([a, b, c, d])
 }
 
 // The first `count` words of `bytes`, into the first places of `words`; later places are kept.
@@ -21,11 +14,9 @@ pub fn to_words(bytes: &[u8], count: usize, words: &mut [u32])
     requires { (4 * count ≤ length bytes.now) × (count ≤ length words.old) }
     ensures { words.new ≡ over (to_words bytes.now count) words.old }
 {
-    let mut k = 0;
-    while k < count {
+    for k in 0..count {
         let at = 4 * k;
         words[k] = from_bytes(bytes[at], bytes[at + 1], bytes[at + 2], bytes[at + 3]);
-        k += 1;
     }
 }
 
@@ -34,10 +25,7 @@ fn put_word(bytes: &mut [u8], at: usize, w: u32)
     requires { at + 4 ≤ length bytes.old }
     ensures { bytes.new ≡ take at bytes.old ++ (bytes_of w ++ drop (at + 4) bytes.old) }
 {
-    bytes[at] = (w % BYTE) as u8;
-    bytes[at + 1] = (w / BYTE % BYTE) as u8;
-    bytes[at + 2] = (w / THIRD % BYTE) as u8;
-    bytes[at + 3] = (w / FOURTH % BYTE) as u8;
+    bytes[at..at + 4].copy_from_slice(&w.to_le_bytes());
 }
 
 // The bytes of the first `count` words, into the first places of `bytes`; later places are kept.
@@ -45,9 +33,7 @@ pub fn to_bytes(words: &[u32], count: usize, bytes: &mut [u8])
     requires { (count ≤ length words.now) × (4 * count ≤ length bytes.old) }
     ensures { bytes.new ≡ over (to_bytes words.now count) bytes.old }
 {
-    let mut k = 0;
-    while k < count {
+    for k in 0..count {
         put_word(bytes, 4 * k, words[k]);
-        k += 1;
     }
 }

@@ -5,8 +5,8 @@
 mod bytes;
 mod signed;
 
-ghost use Rattle.std.specs.Prelude.{◌≡◌, ◌-◌, ◌^◌, ◌<◌, ◌≤◌, length, take};
-ghost use Rattle.words.specs.Word.{word_bits, payload_bits, count_bits, register_bits, kind_of, payload_of, head_pairs, head_registers, head_spare};
+ghost use Rattle.std.specs.Prelude.{◌≡◌, ◌-◌, ◌^◌, ◌<◌, ◌≤◌, eqb, length, take};
+ghost use Rattle.words.specs.Word.{word_bits, payload_bits, count_bits, register_bits, kind_number, kind_of, payload_of, head_pairs, head_registers, head_spare};
 ghost use Rattle.words.specs.Word.{capture_of, launch_of, pair_spare, word_of, head_word, pair_word, wrapped_sum, checksum};
 ghost use Rattle.words.specs.Word.{need_bits, hold_of, setup_of, needs_spare, needs_word};
 
@@ -14,17 +14,45 @@ pub use bytes::{to_bytes, to_words};
 pub use signed::{magnitude, signed_word};
 
 // The kinds of words.
-pub const KIND_HEAD: u32 = 1;
+#[derive(Clone, Copy, Debug, PartialEq, Eq)]
+pub enum WordKind {
+    Head,
+    Pair,
+    Least,
+    Greatest,
+    Needs,
+    End,
+}
 
-pub const KIND_PAIR: u32 = 2;
+impl WordKind {
+    pub fn number(self) -> u32
+        ensures { result ≡ kind_number self }
+    {
+        match self {
+            WordKind::Head => 1,
+            WordKind::Pair => 2,
+            WordKind::Least => 3,
+            WordKind::Greatest => 4,
+            WordKind::Needs => 5,
+            WordKind::End => 7,
+        }
+    }
 
-pub const KIND_LEAST: u32 = 3;
+    // Whether a word is of this kind.
+    pub fn is_of(self, w: u32) -> bool
+        ensures { result ≡ eqb (kind_of w) (kind_number self) }
+    {
+        kind(w) == self.number()
+    }
 
-pub const KIND_GREATEST: u32 = 4;
-
-pub const KIND_NEEDS: u32 = 5;
-
-pub const KIND_END: u32 = 7;
+    // The word of this kind with a payload.
+    pub fn word(self, payload: u32) -> u32
+        requires { payload < 2 ^ payload_bits }
+        ensures { result ≡ word_of (kind_number self) payload }
+    {
+        word_of(self.number(), payload)
+    }
+}
 
 // The kind counts in these: the payload below it has 29 bits.
 const KIND: u32 = 0x2000_0000;
@@ -130,35 +158,32 @@ pub fn head_word(registers: u32, pairs: u32) -> u32
     requires { (registers < 2 ^ register_bits) × (pairs < 2 ^ count_bits) }
     ensures { result ≡ head_word registers pairs }
 {
-    word_of(KIND_HEAD, registers * COUNT + pairs)
+    WordKind::Head.word(registers * COUNT + pairs)
 }
 
 pub fn pair_word(launch: u32, capture: u32) -> u32
     requires { (launch < 2 ^ register_bits) × (capture < 2 ^ register_bits) }
     ensures { result ≡ pair_word launch capture }
 {
-    word_of(KIND_PAIR, launch * REGISTER + capture)
+    WordKind::Pair.word(launch * REGISTER + capture)
 }
 
 pub fn needs_word(hold: u32, setup: u32) -> u32
     requires { (hold < 2 ^ need_bits) × (setup < 2 ^ need_bits) }
     ensures { result ≡ needs_word hold setup }
 {
-    word_of(KIND_NEEDS, setup * NEED + hold)
+    WordKind::Needs.word(setup * NEED + hold)
 }
 
-// The sum of the first `count` words, carries out of the word dropped.
-fn sum(words: &[u32], count: usize) -> u32
-    requires { count ≤ length words.now }
-    ensures { result ≡ wrapped_sum (take count words.now) }
+// The sum of words, carries out of the word dropped.
+fn sum(words: &[u32]) -> u32
+    ensures { result ≡ wrapped_sum words.now }
 {
-    let mut acc: u32 = 0;
-    let mut i = 0;
-    while i < count {
-        acc = std::num::wrapping_add_u32(acc, words[i]);
-        i += 1;
+    let mut sum: u32 = 0;
+    for w in words {
+        sum = sum.wrapping_add(*w);
     }
-    acc
+    sum
 }
 
 // The payload of an end word that stands after the first `count` words.
@@ -166,5 +191,5 @@ pub fn end_payload(words: &[u32], count: usize) -> u32
     requires { count ≤ length words.now }
     ensures { result ≡ checksum (take count words.now) }
 {
-    payload(sum(words, count))
+    payload(sum(&words[..count]))
 }

@@ -1,8 +1,9 @@
 -- All four tests of the word are met, so its checks pass.
-use Rattle.std.proofs.Common.{◌≡◌, ℕ, ◌≤◌, true, ◌&&◌, eqb, leb, sym, ◌∙◌, eqb-true, leb-true}
+use Rattle.std.proofs.Common.{◌≡◌, ℕ, ◌+◌, ◌≤◌, true, ◌&&◌, eqb, leb, sym, ◌∙◌, eqb-true, leb-true}
 use Rattle.timing.specs.Limits.{max_need}
 use Rattle.timing.proofs.RuleLaws.{and-true}
-use Rattle.words.specs.Word.{kind_needs}
+use Rattle.words.specs.Word.{kind_needs, kind_of}
+use Rattle.list_format.specs.Lists.{word}
 use Rattle.list_format.proofs.ListLaws.{need-pass}
 use Rattle.delay_list.proofs.need_passes.Goals as goal
 
@@ -16,9 +17,9 @@ tested k s h u e =
 
 pub returns : goal.returns
 returns c = λ e.
-    let t = tested c.kind.result c.needs_spare.result c.hold.result c.setup.result e in
+    let t = tested (kind_of (word c.args.words.now (1 + c.args.r))) c.needs_spare.result c.hold.result c.setup.result (rw c.is_of.ensures at e) in
     need-pass c.args.words.now c.args.r (record {
-      kind = sym c.kind.ensures ∙ t.0;
+      kind = t.0;
       spare = sym c.needs_spare.ensures ∙ t.1.0;
       needs = record { hold = rw (sym c.hold.ensures) t.1.1.0; setup = rw (sym c.setup.ensures) t.1.1.1 };
     })

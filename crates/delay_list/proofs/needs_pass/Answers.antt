@@ -1,5 +1,5 @@
 -- `needs_pass`: whether the checks of all words of needs pass.
--- Invariant: where `pass` still holds, those of the first r registers do. What falls: needs - r.
+-- Invariant: where `pass` still holds, those of the first r registers do.
 use Rattle.std.proofs.Common.{arith}
 use Rattle.refusals.proofs.CheckLaws.{all_of}
 use Rattle.delay_list.proofs.needs_pass.Goals as goal

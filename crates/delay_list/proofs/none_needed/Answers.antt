@@ -1,5 +1,5 @@
 -- `none_needed`: all needs are 0, unless one is found that is not.
--- Invariant `NoneTo`: those of the first r registers are 0. What falls: needs - r.
+-- Invariant `NoneTo`: those of the first r registers are 0.
 use Rattle.std.proofs.Common.{sym, ◌∙◌, arith}
 use Rattle.list_format.proofs.NeedsLaws.{none-start, none-turn, none_end, found-hold, found-setup}
 use Rattle.delay_list.proofs.none_needed.Goals as goal

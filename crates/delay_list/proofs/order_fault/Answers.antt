@@ -27,7 +27,7 @@ returns c =
     let some : 0 < a.k = omega (arith, c.if-k-eq0.false) in
     let asked = c.if-not-asked.false in
     let last : pair_place ws a.k - 3 ≡ pair_place ws (a.k - 1) = omega arith in
-    c.or.ensures
+    c.check.ensures
     ∙ rw (
       c.key_of.ensures,
       c.key_of-last.ensures,

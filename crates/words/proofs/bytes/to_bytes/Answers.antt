@@ -1,5 +1,5 @@
 -- `to_bytes`: the bytes of the first `count` words fill the buffer from the front.
--- Invariant `Filling`: the bytes of the first k words stand there. What falls: count - k.
+-- Invariant `Filling`: the bytes of the first k words stand there.
 use Rattle.std.proofs.Common.{◌*◌, refl, arith}
 use Rattle.buffers.proofs.FillLaws.{filled_none, filling-start, filling-turn}
 use Rattle.words.proofs.bytes.to_bytes.Goals as goal

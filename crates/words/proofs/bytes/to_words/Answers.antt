@@ -1,5 +1,5 @@
 -- `to_words`: the first `count` words of the bytes fill the buffer from the front.
--- Invariant `Filling`: the first k words stand there. What falls: count - k.
+-- Invariant `Filling`: the first k words stand there.
 use Rattle.std.proofs.Common.{◌<◌, length, refl, arith}
 use Rattle.buffers.proofs.FillLaws.{filled_none, filling-start, filling-size, filling-turn, set-put}
 use Rattle.words.proofs.bytes.to_words.Goals as goal
