@@ -16,11 +16,12 @@ use Rattle.ordering.specs.Order.{key_of, not_above, Ascends}
 use Rattle.ordering.proofs.OrderLaws.{above-none, none_above, above-first, above-later}
 use Rattle.refusals.specs.Checks.{Check, or_check, fault_after, first_fault, each_check, no_fault, Fault}
 use Rattle.refusals.specs.Reply.{numbers, Outcome, reply_of, answered}
-use Rattle.refusals.proofs.CheckLaws.{or-passed, stop-first, pass-first, both-pass, pass-both, passed, passes, each_of, all_of}
+use Rattle.refusals.proofs.CheckLaws.{stop-first, pass-first, both-pass, pass-both, passed, passes, each_of, all_of}
 use Rattle.refusals.proofs.ReplyLaws.{numbers-none}
 use Rattle.list_format.specs.Lists.{word, registers, pair_count, need_words, hold_at, setup_at, needs_of, pair_place, written_at}
 use Rattle.list_format.specs.Lists.{counting_needs, pair_at, pairs_from, pairs, place_of, step_of, no_needs}
-use Rattle.list_format.specs.Lists.{differ, head_checks, need_checks, block_checks, kind_checks, value_checks, own_checks, order_check, pair_checks, end_checks}
+use Rattle.list_format.specs.Lists.{differ, head_checks, need_checks, block_checks, kind_checks, value_checks, own_checks, order_check}
+use Rattle.list_format.specs.Lists.{pair_checks, end_checks}
 use Rattle.list_format.specs.Lists.{pairs_checks, body_checks, checks_by, list_checks}
 use Rattle.list_format.specs.Lists.{judged, verdict_by, verdict, Verdict, NeedsIn, ValuesIn, WrittenIn, accepted, IsAccepted, AcceptedList}
 use Rattle.list_format.specs.Lists.{first_needs, IsUsable, UsableList, PairIn, IsWritten, IsPair}
@@ -28,7 +29,7 @@ use Rattle.list_format.proofs.NeedsLaws.{needs-present, needs-absent}
 use Rattle.std.specs.Prelude.{Ok, Err}
 use Rattle.refusals.specs.declared.Refused.{Refused}
 use Rattle.list_format.specs.declared.Counts.{Counts}
-use Rattle.refusals.specs.declared.Refusal.TheVariants.{Hold, Order}
+use Rattle.refusals.specs.declared.Refusal.TheVariants.{Order}
 
 -- ---- the verdict and the first check that fails
 
@@ -177,12 +178,6 @@ module _ (n hold : ℕ) (p : Pair) (at least_at greatest_at : ℕ) where
           (le-ltb max_delay p.least (omega arith), (le-ltb _ _ v.limit, (le-ltb _ _ v.order, (le-ltb _ _ w.holds, tt)))),
         ),
       )
-
-  -- 19 comes last, and with no hold it passes
-  pub hold-last : (f : Fault) → or_check (fault_after f (value_checks n 0 p at least_at greatest_at)) (ltb p.least hold, Hold, least_at)
-      ≡ fault_after f (value_checks n hold p at least_at greatest_at)
-  unfolding fault_after
-  hold-last f = rw (le-ltb p.least 0 (omega arith), or-passed)
 
 and-false : (b : Bool) → b && false ≡ false
 and-false true = refl

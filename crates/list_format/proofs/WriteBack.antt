@@ -26,7 +26,8 @@ use Rattle.refusals.proofs.CheckLaws.{both-pass, pass-both, passed, passes, each
 use Rattle.list_format.specs.Lists.{word, registers, pair_count, need_words_by, need_words, hold_at, setup_at, two_at, needs_of, place_by}
 use Rattle.list_format.specs.Lists.{written_at, no_needs, value_checks, order_check, list_checks, WrittenIn}
 use Rattle.list_format.specs.Read.{four_of, numbers_of, read_places, read_checks, reading}
-use Rattle.list_format.specs.Write.{given_count, given_pair, given_hold, given_setup, given_needs, FitsWords, NeedsFit, one_of, three_of, open_head, open_list}
+use Rattle.list_format.specs.Write.{given_count, given_pair, given_hold, given_setup, given_needs, FitsWords, NeedsFit, one_of, three_of}
+use Rattle.list_format.specs.Write.{open_head, open_list}
 use Rattle.list_format.specs.Write.{words_of, end_place, count_checks, given_need_checks, given_checks, write_checks, GivenIn}
 use Rattle.list_format.proofs.ListLaws.{NeedWordIn, KindsIn, EndIn, ListIn, same, values-in, list-pass}
 use Rattle.list_format.proofs.NeedsLaws.{need-zero, hold_at_lem, hold-none, setup-at, setup-none}

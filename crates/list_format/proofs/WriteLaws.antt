@@ -16,7 +16,8 @@ use Rattle.refusals.proofs.CheckLaws.{both-pass, passed}
 use Rattle.refusals.proofs.ReplyLaws.{answered-refused, answered-done}
 use Rattle.list_format.specs.Read.{reading}
 use Rattle.list_format.specs.Write.{given_count, given_pair, given_needs, one_of, three_of, open_head, open_list, words_of, end_place}
-use Rattle.list_format.specs.Write.{Writing, count_checks, given_need_checks, given_checks, given_pairs, given_body, write_checks, writing_by, write_reply, GivenIn}
+use Rattle.list_format.specs.Write.{Writing, count_checks, given_need_checks, given_checks, given_pairs, given_body, write_checks}
+use Rattle.list_format.specs.Write.{writing_by, write_reply, GivenIn}
 use Rattle.list_format.specs.RoundTrip.{WrittenBy, WrittenAs}
 use mathlib.Core.Bool.{Bool, true}
 use Rattle.list_format.proofs.WriteBack.{given-in, given-rise, head-length, open-length, words-length, write-back}

@@ -1,5 +1,6 @@
 -- Words to bytes and back, and bytes to words and back.
-use Rattle.std.proofs.Common.{◌≡◌, ℕ, ◌+◌, ◌*◌, ◌/◌, ◌%◌, ◌^◌, ◌<◌, List, [], ◌∷◌, length, get_or, take, drop, sym, refl, ap, ◌∙◌, one-mul, div-add-mod', div-one, arith}
+use Rattle.std.proofs.Common.{◌≡◌, ℕ, ◌+◌, ◌*◌, ◌/◌, ◌%◌, ◌^◌, ◌<◌, List, [], ◌∷◌, length, get_or, take, drop, sym, refl, ap, ◌∙◌, one-mul}
+use Rattle.std.proofs.Common.{div-add-mod', div-one, arith}
 use native.Mathlib.Nat.{div-div-eq-div-mul}
 use Rattle.buffers.proofs.RunLaws.{run_length, run_at, run_is, take-stretch}
 use Rattle.words.specs.Word.{word_bits}

@@ -1,5 +1,6 @@
 -- A word made from its fields has them; a word is made of its fields; the wrapped sum, one word longer.
-use Rattle.std.proofs.Common.{◌≡◌, ℕ, zero, suc, ◌+◌, ◌%◌, ◌^◌, ◌<◌, List, [], ◌∷◌, length, get_or, take, le_of_suc-le-suc, not-suc-le-zero, add-one, arith}
+use Rattle.std.proofs.Common.{◌≡◌, ℕ, zero, suc, ◌+◌, ◌%◌, ◌^◌, ◌<◌, List, [], ◌∷◌, length, get_or, take, le_of_suc-le-suc}
+use Rattle.std.proofs.Common.{not-suc-le-zero, add-one, arith}
 use native.Mathlib.Nat.{mod-add-mod}
 use Rattle.words.specs.Word.{payload_bits, count_bits, register_bits, word_bits, kind_head, kind_pair, kind_of, payload_of, head_pairs, head_registers}
 use Rattle.words.specs.Word.{head_spare, capture_of, launch_of, pair_spare, word_of, head_word, pair_word, total, wrapped_sum}

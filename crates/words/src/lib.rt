@@ -6,7 +6,8 @@ mod bytes;
 mod signed;
 
 ghost use Rattle.std.specs.Prelude.{◌≡◌, ◌-◌, ◌^◌, ◌<◌, ◌≤◌, eqb, length, take};
-ghost use Rattle.words.specs.Word.{word_bits, payload_bits, count_bits, register_bits, kind_number, kind_of, payload_of, head_pairs, head_registers, head_spare};
+ghost use Rattle.words.specs.Word.{word_bits, payload_bits, count_bits, register_bits, kind_number, kind_of, payload_of, head_pairs};
+ghost use Rattle.words.specs.Word.{head_registers, head_spare};
 ghost use Rattle.words.specs.Word.{capture_of, launch_of, pair_spare, word_of, head_word, pair_word, wrapped_sum, checksum};
 ghost use Rattle.words.specs.Word.{need_bits, hold_of, setup_of, needs_spare, needs_word};
 
