@@ -35,7 +35,7 @@ pub enum Cause {
     Timing,
 }
 
-// What a refusal means.
+// What a refusal means; what the last two mean of two lists together, `pool_text` says.
 #[tactic(auto, unfolding(crate::specs::RefusalText::words_for, crate::specs::RefusalText::call_meaning, crate::specs::RefusalText::pair_meaning, crate::specs::RefusalText::meaning, refusals::specs::Checks::number_of))]
 fn refusal_words(refusal: Refusal) -> &'static [u8]
     ensures is { result.now ≡ meaning (number_of refusal) }
