@@ -153,7 +153,7 @@ fn put_pooled<'a>(
     requires { (n ≡ registers first.now) × PoolRoom first.now second.now needs count (length answer.old) }
     ensures { answer.new ≡ over (pooled first.now second.now) answer.old }
 {
-    relist::put_front(first, n, count, needs, answer);
+    converter::put_front(first, n, count, needs, answer);
     put_pairs(first, second, needs, count, answer);
     write_list::put_end(answer, delay_list::pair_place(needs, count));
 }
