@@ -3,6 +3,8 @@
 // so that one that is too long is known by its length.
 #![tactic(auto)]
 
+mod programs;
+
 ghost use Rattle.std.specs.Prelude.{◌≡◌, ◌≤◌, ◌<◌, IfOk, OnOk, length, take};
 ghost use Rattle.std.specs.Io.KnownBytes.{Appends, WriteAppends};
 ghost use Rattle.list_bytes.specs.ListBytes.{max_bytes};
@@ -10,6 +12,7 @@ ghost use Rattle.scan.specs.Scan.{text_bytes};
 ghost use Rattle.streams.specs.Streams.{AllRead, ReceivedAs};
 
 use list_bytes::MAX_BYTES;
+pub use programs::{say, with_input, with_list, with_text};
 use scan::TEXT_BYTES;
 use std::env::FillError;
 use std::fs::File;
