@@ -15,11 +15,9 @@ fn put_pairs(words: &[u32], m: usize, counted: &mut [u32])
     requires { Countable words.now m counted.old }
     ensures { counted.new ≡ over (take 1 counted.old ++ run (λ k. three_of (pair_at words.now k)) m) counted.old }
 {
-    let mut k = 0;
-    while k < m {
+    for k in 0..m {
         let p = delay_list::pair_at(words, k);
         write_list::put(counted, delay_list::pair_place(0, k), p);
-        k += 1;
     }
 }
 

@@ -8,8 +8,8 @@ use native.Mathlib.Nat.{eq-or-lt_of_le, le_of_suc-le-suc}
 use native.Mathlib.Numerals.{add-one}
 use native.Mathlib.Omega.{arith}
 use lib.Dec.{eqb}
+use Rattle.std.specs.List.{list_all}
 use lib.ListN.{length, get_or}
-use borrow.Author.Count.{below_more}
 use borrow.Author.Tests.{eqb-true, eq-eqb, ne_eqb, lt-ltb, le-ltb}
 use Rattle.timing.specs.declared.Pair.{Pair}
 use Rattle.timing.proofs.RuleLaws.{and-true}
@@ -42,20 +42,11 @@ need-zero [] e i = refl
 need-zero (x ∷ xs) e zero = eqb-true x 0 (and-true (eqb x 0) (no_needs xs) e).0
 need-zero (x ∷ xs) e (suc i) = need-zero xs (and-true (eqb x 0) (no_needs xs) e).1 i
 
--- a loop over needs that looks for one that is not 0: the first i are
-pub record NoneBefore (xs : List ℕ) (i : ℕ) : Type 0 where
-  pub bound : i ≤ length xs
-  pub none : (j : ℕ) → j < i → get_or xs j 0 ≡ 0
-
-module _ (xs : List ℕ) where
-  pub before-start : NoneBefore xs 0
-  before-start = record { bound = omega arith; none = λ j l. absurd (omega arith) }
-
-  pub before-turn : {i : ℕ} → NoneBefore xs i → i < length xs → get_or xs i 0 ≡ 0 → NoneBefore xs (i + 1)
-  before-turn {i} t h e = record { bound = omega arith; none = below_more (λ j. get_or xs j 0 ≡ 0) i t.none e }
-
-  pub before-end : {i : ℕ} → NoneBefore xs i → length xs ≤ i → true ≡ no_needs xs
-  before-end t h = sym (none_needed xs (λ j l. t.none j (omega arith)))
+-- all needs are 0 where each is
+pub all-zero : (xs : List ℕ) → list_all (λ x. eqb x 0) xs ≡ no_needs xs
+unfolding no_needs
+all-zero [] = refl
+all-zero (x ∷ xs) = ap (λ b. eqb x 0 && b) (all-zero xs)
 
 -- stretch by stretch
 needs-append : (xs ys : List ℕ) → no_needs (xs ++ ys) ≡ no_needs xs && no_needs ys

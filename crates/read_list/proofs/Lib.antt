@@ -1,2 +1,1 @@
--- The laws, which other crates may cite too.
-mod TurnLaws
+-- No laws of its own.

@@ -2,15 +2,15 @@
 // The contract cites `list_format`: `specs/Read.antt` for the outcome, `specs/RoundTrip.antt` for the whole promise.
 #![tactic(auto)]
 
-ghost use Rattle.std.specs.Prelude.{◌≡◌, true, [], ◌∷◌, ◌++◌, ◌+◌, ◌*◌, ◌<◌, ◌≤◌, length, take, drop};
+ghost use Rattle.std.specs.Prelude.{◌≡◌, [], ◌∷◌, ◌++◌, ◌+◌, ◌*◌, ◌<◌, ◌≤◌, length, take, drop};
 ghost use Rattle.buffers.specs.Over.{over};
 ghost use Rattle.list_format.specs.Lists.{registers, pair_count, need_words, needs_of, IsAccepted};
 ghost use Rattle.list_format.specs.Read.{four_of, numbers_of};
 ghost use Rattle.list_format.specs.RoundTrip.{ReadAs};
-ghost use Rattle.read_list.specs.Stored.{is_one, stored};
 
 use delay_list::Reader;
-use list_format::{Next, Reading, Verdict};
+use list_format::Counts;
+use refusals::{Refusal, Refused, check};
 use timing::Pair;
 
 // The four numbers of a pair, stored from `at` on.
@@ -24,29 +24,15 @@ fn put(answer: &mut [u32], at: usize, p: Pair)
     answer[at + 3] = p.greatest;
 }
 
-// Stores what a reader at pair k has come to: a pair in its four places, the end not at all. Whether it was a pair.
-fn store(next: Next, k: usize, answer: &mut [u32]) -> bool
-    requires { is_one next ≡ true → 4 * k + 4 ≤ length answer.old }
-    ensures { (result ≡ is_one next) × (answer.new ≡ stored next k answer.old) }
-{
-    match next {
-        Next::One(p) => {
-            put(answer, 4 * k, p);
-            true
-        }
-        Next::End => false,
-    }
-}
-
 // The numbers of all pairs of an accepted list, in the first places of the buffer: a reader is asked for pair after pair, until the end.
 fn fill(words: &[u32], answer: &mut [u32])
     requires { IsAccepted words.now × (4 * pair_count words.now ≤ length answer.old) }
     ensures { answer.new ≡ over (numbers_of words.now) answer.old }
 {
     let mut reader = Reader::new(words, 0);
-    while store(reader.next(), reader.at, answer) {
-        let further = reader.advanced();
-        reader = further;
+    while let Some(p) = reader.next() {
+        put(answer, 4 * reader.at, p);
+        reader = reader.advanced();
     }
 }
 
@@ -66,30 +52,26 @@ fn fill_needs(words: &[u32], n: u32, at: usize, answer: &mut [u32])
     ensures { answer.new ≡ over (take at answer.old ++ needs_of words.now) answer.old }
 {
     let needs = delay_list::need_count(words);
-    let mut r = 0;
-    while r < n {
+    for r in 0..n {
         let hold = delay_list::hold_at(words, needs, r);
         let setup = delay_list::setup_at(words, needs, r);
         put_needs(answer, at + 2 * r as usize, hold, setup);
-        r += 1;
     }
 }
 
 // Reads a delay list. The counts of registers and pairs are returned, and the first places of the buffer hold launch, capture, least and
 // greatest of each pair, then hold and setup of each register; later places keep their contents. A refusal changes nothing.
-pub fn read(words: &[u32], answer: &mut [u32]) -> Reading
+pub fn read(words: &[u32], answer: &mut [u32]) -> Result<Counts, Refused>
     ensures { ReadAs words.now answer.old answer.new result }
 {
-    match delay_list::verdict(words) {
-        Verdict::Refused(number, place) => Reading::Refused(number, place),
-        Verdict::Accepted(n, m) => {
-            let four = 4 * m as usize;
-            if answer.len() < four + 2 * n as usize {
-                return Reading::Refused(2, 0);
-            }
-            fill(words, answer);
-            fill_needs(words, n, four, answer);
-            Reading::Read(n, m)
-        }
-    }
+    let counts = delay_list::verdict(words)?;
+    let four = 4 * counts.pairs as usize;
+    check(
+        answer.len() < four + 2 * counts.registers as usize,
+        Refusal::Room,
+        0,
+    )?;
+    fill(words, answer);
+    fill_needs(words, counts.registers, four, answer);
+    Ok(counts)
 }

@@ -3,14 +3,18 @@ use Prim.Native.Nat.{ℕ}
 use native.Mathlib.Omega.{arith}
 use mathlib.Core.Bool.{Bool, true, false}
 use mathlib.Core.List.{List, [], ◌∷◌, ◌++◌}
-use mathlib.Core.Path.{◌≡◌, refl, ◌∙◌}
+use mathlib.Core.Path.{◌≡◌, refl, sym, ap, ◌∙◌}
 use Rattle.buffers.specs.Over.{over}
 use Rattle.std.specs.Prelude.{Ok, Err}
-use Rattle.refusals.specs.Checks.{Check, Fault, no_fault, number_of, refused_at, or_check, fault_after, first_fault}
+use Rattle.refusals.specs.Checks.{Check, Fault, no_fault, number_of, refused_at, checked, or_check, fault_after, first_fault}
 use Rattle.refusals.specs.declared.Refusal.{Refusal}
 use Rattle.refusals.specs.declared.Refused.{Refused}
 use Rattle.refusals.specs.Reply.{refusal, numbers, Outcome, refused, done, reply_of, buffer_after, told, answered, unless}
 use Rattle.refusals.proofs.CheckLaws.{stop-first, pass-first}
+
+found_in : Refused → Fault → Refused
+found_in r (Ok u) = r
+found_in r (Err w) = w
 
 -- a single check
 pub one-fails : {b : Bool} {why : Refusal} {place : ℕ} → b ≡ true → first_fault ((b, why, place) ∷ []) ≡ Err (refused_at why place)
@@ -20,6 +24,21 @@ one-fails e = rw e
 pub one_passes : {b : Bool} (why : Refusal) (place : ℕ) → b ≡ false → first_fault ((b, why, place) ∷ []) ≡ no_fault
 unfolding or_check fault_after
 one_passes why place e = rw e
+
+-- what one check finds tells whether it fails, and where it does the refusal with its place
+pub check-fails : (b : Bool) (why : Refusal) (place : ℕ) {r : Refused} → checked (b, why, place) ≡ Err r → (b ≡ true) × (r ≡ refused_at why place)
+unfolding or_check found_in
+check-fails true why place {r} e = (refl, sym (ap (found_in r) e))
+check-fails false why place {r} e =
+    let z : ◌≡◌ {A = ℕ} 0 1 = cc in
+    absurd (omega arith)
+
+pub check-holds : (b : Bool) (why : Refusal) (place : ℕ) → checked (b, why, place) ≡ no_fault → b ≡ false
+unfolding or_check
+check-holds true why place e =
+    let z : ◌≡◌ {A = ℕ} 0 1 = cc in
+    absurd (omega arith)
+check-holds false why place e = refl
 
 module _ (cs : List Check) (o : Outcome) where
   pub answered-refused : {r : Refused} → first_fault cs ≡ Err r → answered cs o ≡ refused (number_of r.refusal) r.place

@@ -13,9 +13,9 @@ ghost use Rattle.list_format.specs.Write.{words_of, end_place, count_checks, giv
 ghost use Rattle.list_format.specs.Write.{write_checks, GivenIn};
 ghost use Rattle.list_format.specs.RoundTrip.{WrittenBy, WrittenAs};
 
-use list_format::Writing;
-use refusals::Fault;
+use refusals::{Refusal, Refused, check};
 use timing::Pair;
+use words::WordKind;
 
 // Pair k of the numbers.
 fn given_pair(numbers: &[u32], k: usize) -> Pair
@@ -35,25 +35,14 @@ fn given_pair(numbers: &[u32], k: usize) -> Pair
 fn given_hold(needs: &[u32], r: u32) -> u32
     ensures { result ≡ given_hold needs.now r }
 {
-    let at = 2 * r as usize;
-    if at < needs.len() {
-        return needs[at];
-    }
-    0
+    needs.get(2 * r as usize).copied().unwrap_or(0)
 }
 
 // Whether all needs are 0.
 pub fn none_needed(needs: &[u32]) -> bool
     ensures { result ≡ no_needs needs.now }
 {
-    let mut i = 0;
-    while i < needs.len() {
-        if needs[i] != 0 {
-            return false;
-        }
-        i += 1;
-    }
-    true
+    needs.iter().all(|x| *x == 0)
 }
 
 // How many words of needs are written.
@@ -67,55 +56,56 @@ fn given_needs(n: u32, needs: &[u32]) -> usize
 }
 
 // 11 and 12: the count of numbers, the counts of registers and pairs, and the count of needs.
-fn count_fault(n: u32, len: usize, needs: usize) -> Fault
+#[tactic(auto, unfolding(refusals::specs::Checks::or_check, refusals::specs::Checks::fault_after))]
+fn count_fault(n: u32, len: usize, needs: usize) -> Result<(), Refused>
     ensures { result ≡ first_fault (count_checks n len needs) }
 {
-    Fault::None
-        .or(len % 4 != 0, 11, 0)
-        .or(n == 0, 12, 0)
-        .or(n > timing::MAX_REGISTERS, 12, 0)
-        .or(len / 4 > timing::MAX_PAIRS, 12, 0)
-        .or(needs != 2 * n as usize, 11, 0)
+    check(len % 4 != 0, Refusal::Length, 0)?;
+    check(n == 0, Refusal::Size, 0)?;
+    check(n > timing::MAX_REGISTERS, Refusal::Size, 0)?;
+    check(len / 4 > timing::MAX_PAIRS, Refusal::Size, 0)?;
+    check(needs != 2 * n as usize, Refusal::Length, 0)
 }
 
 // 13: the needs of register r.
-fn need_fault(needs: &[u32], r: usize) -> Fault
+#[tactic(auto, unfolding(refusals::specs::Checks::or_check, refusals::specs::Checks::fault_after))]
+fn need_fault(needs: &[u32], r: usize) -> Result<(), Refused>
     requires { 2 * r + 1 < length needs.now }
     ensures { result ≡ first_fault (given_need_checks needs.now r) }
 {
-    Fault::None
-        .or(needs[2 * r] > timing::MAX_NEED, 13, r)
-        .or(needs[2 * r + 1] > timing::MAX_NEED, 13, r)
+    check(needs[2 * r] > timing::MAX_NEED, Refusal::Word, r)?;
+    check(needs[2 * r + 1] > timing::MAX_NEED, Refusal::Word, r)
 }
 
 // 20: pair k is not above the one before it, where the order is asked for.
-fn order_fault(numbers: &[u32], asked: bool, k: usize) -> Fault
+fn order_fault(numbers: &[u32], asked: bool, k: usize) -> Result<(), Refused>
     requires { 4 * k + 4 ≤ length numbers.now }
     ensures { result ≡ first_fault (order_check asked (given_pair numbers.now) k k ∷ []) }
 {
     if !asked {
-        return Fault::None;
+        return Ok(());
     }
     if k == 0 {
-        return Fault::None;
+        return Ok(());
     }
     let last = given_pair(numbers, k - 1);
     let p = given_pair(numbers, k);
     let below = delay_list::key(last.launch, last.capture);
-    Fault::None.or(delay_list::key(p.launch, p.capture) <= below, 20, k)
+    check(
+        delay_list::key(p.launch, p.capture) <= below,
+        Refusal::Order,
+        k,
+    )
 }
 
 // 14, 15, 16, 19 and 20: pair k.
-fn pair_fault(n: u32, numbers: &[u32], needs: &[u32], asked: bool, k: usize) -> Fault
+fn pair_fault(n: u32, numbers: &[u32], needs: &[u32], asked: bool, k: usize) -> Result<(), Refused>
     requires { 4 * k + 4 ≤ length numbers.now }
     ensures { result ≡ first_fault (given_checks asked n numbers.now needs.now k) }
 {
     let p = given_pair(numbers, k);
     let hold = given_hold(needs, p.capture);
-    let own = delay_list::value_fault(Fault::None, n, hold, p, k, k, k);
-    if let Fault::At(number, index) = own {
-        return Fault::At(number, index);
-    }
+    delay_list::value_fault(n, hold, p, k, k, k)?;
     order_fault(numbers, asked, k)
 }
 
@@ -128,21 +118,16 @@ fn pairs_fault(
     count: usize,
     m: usize,
     room: usize,
-) -> Fault
+) -> Result<(), Refused>
     requires { (count ≡ given_needs n needs.now)
         × ((count < 2 ^ register_bits) × ((m < 2 ^ count_bits) × (4 * m ≤ length numbers.now))) }
     ensures { result ≡ first_fault (given_pairs asked n numbers.now needs.now m room) }
 {
-    let mut k = 0;
-    while k < m {
-        let found = pair_fault(n, numbers, needs, asked, k);
-        if let Fault::At(number, index) = found {
-            return Fault::At(number, index);
-        }
-        k += 1;
+    for k in 0..m {
+        pair_fault(n, numbers, needs, asked, k)?;
     }
     let places = delay_list::pair_place(count, m) + 1;
-    Fault::None.or(room < places, 2, 0)
+    check(room < places, Refusal::Room, 0)
 }
 
 // The needs register by register, then the pairs and the room.
@@ -154,18 +139,13 @@ fn body_fault(
     count: usize,
     m: usize,
     room: usize,
-) -> Fault
+) -> Result<(), Refused>
     requires { (count ≡ given_needs n needs.now)
         × ((count < 2 ^ register_bits) × ((2 * n ≤ length needs.now) × ((m < 2 ^ count_bits) × (4 * m ≤ length numbers.now)))) }
     ensures { result ≡ first_fault (given_body asked n numbers.now needs.now m room) }
 {
-    let mut r = 0;
-    while r < n as usize {
-        let found = need_fault(needs, r);
-        if let Fault::At(number, place) = found {
-            return Fault::At(number, place);
-        }
-        r += 1;
+    for r in 0..n as usize {
+        need_fault(needs, r)?;
     }
     pairs_fault(n, numbers, needs, asked, count, m, room)
 }
@@ -178,17 +158,13 @@ fn write_fault(
     asked: bool,
     count: usize,
     room: usize,
-) -> Fault
+) -> Result<(), Refused>
     requires { count ≡ given_needs n needs.now }
     ensures { result ≡ first_fault (write_checks asked n numbers.now needs.now room) }
 {
-    match count_fault(n, numbers.len(), needs.len()) {
-        Fault::At(number, place) => Fault::At(number, place),
-        Fault::None => {
-            let m = numbers.len() / 4;
-            body_fault(n, numbers, needs, asked, count, m, room)
-        }
-    }
+    count_fault(n, numbers.len(), needs.len())?;
+    let m = numbers.len() / 4;
+    body_fault(n, numbers, needs, asked, count, m, room)
 }
 
 // The words of needs of the first `count` registers, after the head.
@@ -196,10 +172,8 @@ fn put_needs(needs: &[u32], count: usize, answer: &mut [u32])
     requires { NeedsFit needs.now count × ((2 * count ≤ length needs.now) × (1 + count ≤ length answer.old)) }
     ensures { answer.new ≡ over (take 1 answer.old ++ run (one_of needs.now) count) answer.old }
 {
-    let mut r = 0;
-    while r < count {
+    for r in 0..count {
         answer[1 + r] = words::needs_word(needs[2 * r], needs[2 * r + 1]);
-        r += 1;
     }
 }
 
@@ -219,8 +193,8 @@ pub fn put(answer: &mut [u32], at: usize, p: Pair)
     ensures { answer.new ≡ take at answer.old ++ (three_of p ++ drop (at + 3) answer.old) }
 {
     answer[at] = words::pair_word(p.launch, p.capture);
-    answer[at + 1] = words::word_of(words::KIND_LEAST, p.least);
-    answer[at + 2] = words::word_of(words::KIND_GREATEST, p.greatest);
+    answer[at + 1] = WordKind::Least.word(p.least);
+    answer[at + 2] = WordKind::Greatest.word(p.greatest);
 }
 
 // The words of all m pairs, after the head and `count` words of needs.
@@ -230,11 +204,9 @@ fn put_pairs(numbers: &[u32], count: usize, m: usize, answer: &mut [u32])
     ensures { answer.new
         ≡ over (take (1 + count) answer.old ++ run (λ k. three_of (given_pair numbers.now k)) m) answer.old }
 {
-    let mut k = 0;
-    while k < m {
+    for k in 0..m {
         let p = given_pair(numbers, k);
         put(answer, delay_list::pair_place(count, k), p);
-        k += 1;
     }
 }
 
@@ -244,7 +216,7 @@ pub fn put_end(answer: &mut [u32], at: usize)
     ensures { answer.new ≡ set answer.old at (end_word (checksum (take at answer.old))) }
 {
     let sum = words::end_payload(answer, at);
-    answer[at] = words::word_of(words::KIND_END, sum);
+    answer[at] = WordKind::End.word(sum);
 }
 
 // The whole list with `count` words of needs, in the first places of the buffer. The answer is the count of words.
@@ -263,27 +235,36 @@ fn put_list(n: u32, numbers: &[u32], needs: &[u32], count: usize, answer: &mut [
 }
 
 // Writes a list, with the order of its pairs asked for or not.
-fn write_by(n: u32, numbers: &[u32], needs: &[u32], asked: bool, answer: &mut [u32]) -> Writing
+fn write_by(
+    n: u32,
+    numbers: &[u32],
+    needs: &[u32],
+    asked: bool,
+    answer: &mut [u32],
+) -> Result<usize, Refused>
     ensures { WrittenBy asked n numbers.now needs.now answer.old answer.new result }
 {
     let count = given_needs(n, needs);
-    match write_fault(n, numbers, needs, asked, count, answer.len()) {
-        Fault::At(number, place) => Writing::Refused(number, place),
-        Fault::None => Writing::Written(put_list(n, numbers, needs, count, answer)),
-    }
+    write_fault(n, numbers, needs, asked, count, answer.len())?;
+    Ok(put_list(n, numbers, needs, count, answer))
 }
 
 // Writes the delay list of n registers whose pairs are given by four numbers each: launch, capture, least, greatest; and whose needs by two for
 // each register: hold, setup. The count of words is returned and that many places are filled; later places keep their contents. A refusal
 // changes nothing.
-pub fn write(n: u32, numbers: &[u32], needs: &[u32], answer: &mut [u32]) -> Writing
+pub fn write(n: u32, numbers: &[u32], needs: &[u32], answer: &mut [u32]) -> Result<usize, Refused>
     ensures { WrittenAs n numbers.now needs.now answer.old answer.new result }
 {
     write_by(n, numbers, needs, true, answer)
 }
 
 // Writes a list whose pairs come in any order and may repeat, as it is given: 20 is not asked. It is to be converted before any job takes it.
-pub fn write_stored(n: u32, numbers: &[u32], needs: &[u32], answer: &mut [u32]) -> Writing
+pub fn write_stored(
+    n: u32,
+    numbers: &[u32],
+    needs: &[u32],
+    answer: &mut [u32],
+) -> Result<usize, Refused>
     ensures { WrittenBy false n numbers.now needs.now answer.old answer.new result }
 {
     write_by(n, numbers, needs, false, answer)

@@ -1,5 +1,5 @@
 -- `put_pairs`: the words of all pairs, three places each, after the head.
--- Invariant `Filling`: those of the first k pairs stand there. What falls: m - k.
+-- Invariant `Filling`: those of the first k pairs stand there.
 use mathlib.Core.Path.{◌≡◌, refl}
 use native.Mathlib.Omega.{arith}
 use lib.ListN.{length, take}

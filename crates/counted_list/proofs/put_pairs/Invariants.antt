@@ -1,6 +1,5 @@
 -- `put_pairs`: the words of all pairs, three places each, after the head.
--- Invariant `Filling`: those of the first k pairs stand there. What falls: m - k.
-use Prim.Native.Nat.{◌-◌}
+-- Invariant `Filling`: those of the first k pairs stand there.
 use lib.ListN.{take}
 use Rattle.buffers.proofs.FillLaws.{Filling}
 use Rattle.list_format.specs.Lists.{pair_at}
@@ -9,6 +8,3 @@ use Rattle.counted_list.proofs.put_pairs.Given as goal
 
 abbrev pub invariant-loop-k : goal.invariant-loop-k
 invariant-loop-k l = Filling (take 1 l.initial.counted) (λ i. three_of (pair_at l.words i)) l.m l.initial.counted l.counted l.k
-
-abbrev pub decreases-loop-k : goal.decreases-loop-k
-decreases-loop-k l = l.m - l.k

@@ -1,5 +1,5 @@
 -- `fill_needs`: hold and setup of all registers, two places each, from `at` on.
--- Invariant `Filling`: those of the first r registers stand there. What falls: n - r.
+-- Invariant `Filling`: those of the first r registers stand there.
 use Prim.Native.Nat.{◌+◌, ◌*◌}
 use mathlib.Core.Path.{◌≡◌, refl}
 use native.Mathlib.Omega.{arith}

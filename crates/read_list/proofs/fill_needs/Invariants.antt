@@ -1,6 +1,5 @@
 -- `fill_needs`: hold and setup of all registers, two places each, from `at` on.
--- Invariant `Filling`: those of the first r registers stand there. What falls: n - r.
-use Prim.Native.Nat.{◌-◌}
+-- Invariant `Filling`: those of the first r registers stand there.
 use lib.ListN.{take}
 use Rattle.buffers.proofs.FillLaws.{Filling}
 use Rattle.list_format.specs.Lists.{two_at}
@@ -8,6 +7,3 @@ use Rattle.read_list.proofs.fill_needs.Given as goal
 
 abbrev pub invariant-loop-r : goal.invariant-loop-r
 invariant-loop-r l = Filling (take l.at l.initial.answer) (two_at l.words) l.n l.initial.answer l.answer l.r
-
-abbrev pub decreases-loop-r : goal.decreases-loop-r
-decreases-loop-r l = l.n - l.r

@@ -1,12 +1,8 @@
 -- `body_fault`: the first refusal of the needs, register by register, and then of the pairs and the room.
--- Invariant `Remaining`: the checks of register r and later ones decide as the whole run does. What falls: n - r.
-use Prim.Native.Nat.{◌-◌}
+-- Invariant `Remaining`: the checks of register r and later ones decide as the whole run does.
 use Rattle.refusals.proofs.CheckLaws.{Remaining}
 use Rattle.list_format.specs.Write.{given_need_checks, given_pairs}
 use Rattle.write_list.proofs.body_fault.Given as goal
 
 abbrev pub invariant-loop-r : goal.invariant-loop-r
 invariant-loop-r l = Remaining (given_need_checks l.needs) (given_pairs l.asked l.n l.numbers l.needs l.m l.room) l.n l.r
-
-abbrev pub decreases-loop-r : goal.decreases-loop-r
-decreases-loop-r l = l.n - l.r

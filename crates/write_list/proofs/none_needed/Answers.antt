@@ -1,13 +1,11 @@
--- `none_needed`: all needs are 0, unless one is found that is not.
--- Invariant `NoneBefore`: the first i are 0. What falls: those that are left.
-use mathlib.Core.Path.{sym}
-use Rattle.list_format.proofs.NeedsLaws.{before-end, some-needed}
+-- `none_needed`: each need is looked at (`all-zero`).
+use Rattle.std.proofs.Common.{◌∙◌, rules, eqb}
+use Rattle.std.proofs.lemmas.Iterator.{YieldsList-from_slice}
+use Rattle.std.proofs.lemmas.Iterator.Search.{all_from_yields_List}
+use Rattle.list_format.proofs.NeedsLaws.{all-zero}
 use Rattle.write_list.proofs.none_needed.Goals as goal
 
-pub returns-then-needs-i-ne0 : goal.returns-then-needs-i-ne0
-returns-then-needs-i-ne0 c =
-    let at = c.loop-i in
-    sym (some-needed c.args.needs.now at.i c.if-needs-i-ne0.true)
-
 pub returns : goal.returns
-returns c = before-end _ c.loop-i.invariant c.loop-i-test.false
+returns c =
+    all_from_yields_List (λ x. eqb x 0) _ _ _ c.all.ensures.ran (YieldsList-from_slice c.args.needs.now cc) (λ x b q k. search rules)
+    ∙ all-zero c.args.needs.now

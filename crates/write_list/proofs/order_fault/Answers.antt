@@ -21,7 +21,7 @@ returns c =
     let a = c.args in
     let some : 0 < a.k = omega (arith, c.if-k-eq0.false) in
     let asked = c.if-not-asked.false in
-    c.or.ensures
+    c.check.ensures
     ∙ rw (
       c.key.ensures,
       c.key-below.ensures,

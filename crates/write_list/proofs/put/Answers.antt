@@ -8,5 +8,5 @@ use Rattle.write_list.proofs.put.Goals as goal
 pub returns : goal.returns
 returns c =
     let a = c.args in
-    rw (c.word_of-2.ensures, c.word_of.ensures, c.pair_word.ensures, add-one, add-two)
+    rw (c.word-2.ensures, c.word.ensures, c.pair_word.ensures, add-one, add-two)
     (sets-put (three_of a.p) a.answer.now a.at (omega arith))

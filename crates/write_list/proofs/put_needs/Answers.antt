@@ -1,5 +1,5 @@
 -- `put_needs`: the words of needs, one place each, after the head.
--- Invariant `Filling`: those of the first r registers stand there. What falls: count - r.
+-- Invariant `Filling`: those of the first r registers stand there.
 use Prim.Native.Nat.{◌+◌, ◌<◌}
 use mathlib.Core.Path.{◌≡◌, refl}
 use native.Mathlib.Omega.{arith}

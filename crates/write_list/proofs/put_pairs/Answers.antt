@@ -1,5 +1,5 @@
 -- `put_pairs`: the words of all pairs, three places each, after the head and the words of needs.
--- Invariant `Filling`: those of the first k pairs stand there. What falls: m - k.
+-- Invariant `Filling`: those of the first k pairs stand there.
 use Prim.Native.Nat.{◌+◌}
 use mathlib.Core.Path.{◌≡◌, refl}
 use native.Mathlib.Omega.{arith}

@@ -1,5 +1,6 @@
 -- `write_by`: a refusal keeps the buffer, and numbers that pass every check are written as their list. One law for each.
-use mathlib.Core.Path.{sym, ◌∙◌}
+use Rattle.std.proofs.Common.{◌≡◌, sym, ◌∙◌, rules}
+use Rattle.std.specs.Prelude.{Err}
 use Rattle.list_format.proofs.WriteBack.{given-in}
 use Rattle.list_format.proofs.WriteLaws.{write-refused, write-room, write_done}
 use Rattle.write_list.proofs.write_by.Goals as goal
@@ -7,20 +8,20 @@ use Rattle.write_list.proofs.write_by.Goals as goal
 pub put_list-requires : goal.put_list-requires
 put_list-requires c =
     let s = c.args in
-    let none = sym c.write_fault.ensures ∙ c.in-None.is in (
+    let none = sym c.write_fault.ensures ∙ c.in_ok-write_fault.was in (
       given-in s.asked s.n s.numbers.now s.needs.now _ none,
       (c.given_needs-count.ensures, write-room s.n s.numbers.now s.needs.now s.answer.now s.asked none),
     )
 
-pub returns-in-At : goal.returns-in-At
-returns-in-At c =
+pub returns-in_err-write_fault : goal.returns-in_err-write_fault
+returns-in_err-write_fault c =
     let s = c.args in
-    write-refused s.n s.numbers.now s.needs.now s.answer.now s.asked
-    (sym c.write_fault.ensures ∙ c.in-At.is)
+    let is : c.from_residual.result ≡ Err c.in_err-write_fault.field-0.0 = search rules in
+    rw is (write-refused s.n s.numbers.now s.needs.now s.answer.now s.asked (sym c.write_fault.ensures ∙ c.in_err-write_fault.was))
 
-pub returns-in-None : goal.returns-in-None
-returns-in-None c =
+pub returns : goal.returns
+returns c =
     let s = c.args in
-    let none = sym c.write_fault.ensures ∙ c.in-None.is in
+    let none = sym c.write_fault.ensures ∙ c.in_ok-write_fault.was in
     let list = c.put_list.ensures in
     write_done s.n s.numbers.now s.needs.now s.answer.now s.asked none _ _ list.0 list.1
