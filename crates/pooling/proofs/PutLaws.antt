@@ -25,37 +25,6 @@ use Rattle.merging.proofs.RestLaws.{rest-words, pooled-words}
 use Rattle.pooling.specs.Pool.{PoolRoom}
 use Rattle.pooling.proofs.PoolLaws.{OneChip}
 
--- ---- a loop that copies words
-
--- the first i of them stand in the buffer from a place on
-pub record Copying (xs : List ℕ) (at : ℕ) (was now : List ℕ) (i : ℕ) : Type 0 where
-  pub bound : i ≤ length xs
-  pub filled : Filled (take at was ++ take i xs) was now
-
-module _ (xs : List ℕ) (at : ℕ) (was : List ℕ) (room : at + length xs ≤ length was) where
-  pub copying-start : Copying xs at was was 0
-  copying-start = record { bound = omega arith; filled = rw append-nil (filled-self at was (omega arith)) }
-
-  pub copying-turn : {now : List ℕ} {i : ℕ} → Copying xs at was now i → i < length xs → Copying xs at was (set now (at + i) (get_or xs i 0)) (i + 1)
-  copying-turn {now} {i} h l =
-      let front = length-take-le at was (omega arith) in
-      let stored = length-take-le i xs (omega arith) in
-      let long = length-append (take at was) (take i xs) in
-      let size = filled-size h.filled in
-      let put = filled_put h.filled (get_or xs i 0 ∷ []) (set now (at + i) (get_or xs i 0)) {at = at + i} (omega (arith, front, stored, long))
-      (omega arith) (set-put now (at + i) (get_or xs i 0) (omega (arith, size))) in
-      record {
-        bound = omega arith;
-        filled = rw (add-one i, take-suc xs i 0 l, ← append_assoc (take at was) (take i xs) (get_or xs i 0 ∷ [])) put;
-      }
-
-  pub copying-end : {now : List ℕ} {i : ℕ} → Copying xs at was now i → length xs ≤ i → now ≡ put_at at xs was
-  copying-end {now} {i} h l =
-      let all : take i xs ≡ xs = take_all i xs l in
-      let front = length-take-le at was (omega arith) in
-      let long : length (take at was ++ xs) ≡ at + length xs = length-append (take at was) xs ∙ rw front in
-      h.filled.is ∙ rw (all, long, append_assoc)
-
 -- ---- the pairs
 
 module _ {ws vs : List ℕ} {needs count room : ℕ} (g : PoolRoom ws vs needs count room) where
