@@ -67,13 +67,7 @@ module _ {ws now : List ℕ} {r : Reading} (a : ReadAs ws (zeros list_numbers) n
   show-refused e put = rw (told-refusal refused_saying shown_said (reading ws list_numbers) (rw e at reply)) (said-trouble put (omega arith))
 
   module _ {found : Counts} (e : r ≡ Ok found) where
-    n : ℕ
-    n = found.registers
-
-    m : ℕ
-    m = found.pairs
-
-    read_told : numbers (n ∷ m ∷ []) ≡ reply_of (reading ws list_numbers)
+    read_told : numbers (found.registers ∷ found.pairs ∷ []) ≡ reply_of (reading ws list_numbers)
     unfolding read_reply
     read_told = rw e at reply
 
@@ -81,28 +75,28 @@ module _ {ws now : List ℕ} {r : Reading} (a : ReadAs ws (zeros list_numbers) n
     unfolding reading
     is = numbers-done (read_checks ws list_numbers) (done (registers ws ∷ pair_count ws ∷ []) (numbers_of ws ++ needs_of ws)) read_told
 
-    same : numbers (n ∷ m ∷ []) ≡ numbers (registers ws ∷ pair_count ws ∷ [])
+    same : numbers (found.registers ∷ found.pairs ∷ []) ≡ numbers (registers ws ∷ pair_count ws ∷ [])
     unfolding reply_of
     same = rw is at read_told
 
-    pairs-are : m ≡ pair_count ws
+    pairs-are : found.pairs ≡ pair_count ws
     pairs-are = let e = same in cc
 
-    registers-are : n ≡ registers ws
+    registers-are : found.registers ≡ registers ws
     registers-are = let e = same in cc
 
-    pub read-few : m ≤ max_pairs
+    pub read-few : found.pairs ≤ max_pairs
     unfolding reading
     read-few = rw pairs-are (numbers-in ws _ _ read_told).head.few
 
-    pub read-most : n ≤ max_registers
+    pub read-most : found.registers ≤ max_registers
     unfolding reading
     read-most = rw registers-are (numbers-in ws _ _ read_told).head.most
 
-    numbers-size : length (numbers_of ws) ≡ 4 * m
+    numbers-size : length (numbers_of ws) ≡ 4 * found.pairs
     numbers-size = rw (numbers-length ws, pairs-are)
 
-    needs-size : length (needs_of ws) ≡ 2 * n
+    needs-size : length (needs_of ws) ≡ 2 * found.registers
     needs-size = rw (needs-length ws, registers-are)
 
     -- the numbers, the needs, and what is left of the buffer
@@ -116,25 +110,25 @@ module _ {ws now : List ℕ} {r : Reading} (a : ReadAs ws (zeros list_numbers) n
     stored-are : now ≡ numbers_of ws ++ (needs_of ws ++ left)
     stored-are = rw append_assoc at all-stored
 
-    numbers-are : take (4 * m) now ≡ numbers_of ws
-    numbers-are = rw stored-are (take_at (numbers_of ws) (needs_of ws ++ left) (4 * m) numbers-size)
+    numbers-are : take (4 * found.pairs) now ≡ numbers_of ws
+    numbers-are = rw stored-are (take_at (numbers_of ws) (needs_of ws ++ left) (4 * found.pairs) numbers-size)
 
-    needs-are : take (2 * n) (drop (4 * m) now) ≡ needs_of ws
+    needs-are : take (2 * found.registers) (drop (4 * found.pairs) now) ≡ needs_of ws
     needs-are =
-        rw (stored-are, drop_at (numbers_of ws) (needs_of ws ++ left) (4 * m) numbers-size) (take_at (needs_of ws) left (2 * n) needs-size)
+        rw (stored-are, drop_at (numbers_of ws) (needs_of ws ++ left) (4 * found.pairs) numbers-size) (take_at (needs_of ws) left (2 * found.registers) needs-size)
 
-    pub read-room : read_places n m ≤ length now
+    pub read-room : read_places found.registers found.pairs ≤ length now
     read-room =
         let L = left in
         rw (stored-are, length-append, length-append) (omega (arith, numbers-size, needs-size))
 
-    pub show-read : {next : ℕ} {text text' : List ℕ} → Put list_width (text_of n (take (4 * m) now) (take (2 * n) (drop (4 * m) now))) text 0 text' next
+    pub show-read : {next : ℕ} {text text' : List ℕ} → Put list_width (text_of found.registers (take (4 * found.pairs) now) (take (2 * found.registers) (drop (4 * found.pairs) now))) text 0 text' next
         → SaidAs shown_places (told refused_saying shown_said (reading ws list_numbers)) text text' (Ok next)
     unfolding told
     show-read put =
         let xs = take_at (numbers_of ws) (needs_of ws) (4 * pair_count ws) (numbers-length ws) in
         let ys = drop_at (numbers_of ws) (needs_of ws) (4 * pair_count ws) (numbers-length ws) in
-        let here : told refused_saying shown_said (reading ws list_numbers) ≡ say_text (text_of n (take (4 * m) now) (take (2 * n) (drop (4 * m) now))) =
+        let here : told refused_saying shown_said (reading ws list_numbers) ≡ say_text (text_of found.registers (take (4 * found.pairs) now) (take (2 * found.registers) (drop (4 * found.pairs) now))) =
         rw (is, xs, ys, numbers-are, needs-are, registers-are) in
         rw here (said-text put (omega arith))
 
@@ -213,11 +207,11 @@ pub zeros-lent : (k j : ℕ) → k ≤ j → k ≡ length (take k (zeros j))
 zeros-lent k j h = rw (zeros-front k j h) (sym (zeros-size k))
 
 -- too many registers are refused before the needs are looked at
-many : (n : ℕ) (xs ys : List ℕ) → max_registers < n → writing_by false n xs ys max_words ≡ refused (cond (differ (length xs % 4) 0) 11 12) 0
+many : (n : ℕ) (xs ys : List ℕ) → max_registers < n → writing_by false n xs ys max_words ≡ refused (number_of (cond (differ (length xs % 4) 0) Length Size)) 0
 unfolding writing_by or_check fault_after
 many n xs ys h =
     first-refused (count_checks n (length xs) (length ys)) (given_body false n xs ys (given_count xs) max_words)
-    (done ((end_place n xs ys + 1) ∷ []) (words_of n xs ys))
+    (done ((end_place n xs ys + 1) ∷ []) (words_of n xs ys)) {r = refused_at (cond (differ (length xs % 4) 0) Length Size) 0}
     (rw (ne_eqb n 0 (λ e. omega arith), lt-ltb max_registers n h) (go (differ (length xs % 4) 0)))
   where
     few : Bool

@@ -30,7 +30,6 @@ use Rattle.text_pieces.specs.Pieces.{number, space, newline}
 use Rattle.text_pieces.proofs.DecimalLaws.{decimal-few}
 use Rattle.scan.specs.declared.State.{State}
 use Rattle.std.specs.Prelude.{None, Ok}
-use Rattle.scan.specs.declared.Numbers.{Numbers}
 use Rattle.scan.specs.Scan.{max_numbers, max_value, text_bytes, start, is_second, number_ended, need_line, line_fault, line_ended, finished}
 use Rattle.scan.specs.Scan.{result_with, kept, after, last, mark_size, scanned, stored_of}
 use Rattle.scan.proofs.CaseLaws.{needs-other, needs-early, needs-more, needs-same, blank-line, pair_line_lem, need-line, line-next, end_kept, finish-ends}

@@ -152,7 +152,7 @@ pub fn show(bytes: &[u8], text: &mut [u8; TEXT_PLACES]) -> Result<usize, Trouble
 }
 
 // The number of the text that ends what a refusal is of: the needs of a register, or a pair; none if it is of the whole.
-#[tactic(auto, unfolding(refusals::specs::Checks::number_of))]
+#[tactic(auto, unfolding(crate::specs::ListText::last_of, refusals::specs::Checks::number_of))]
 fn last_of(needs: usize, refused: Refused) -> Option<usize>
     requires { needs ≤ max_numbers }
     ensures { result ≡ last_of needs (number_of refused.refusal) refused.place }
@@ -164,8 +164,15 @@ fn last_of(needs: usize, refused: Refused) -> Option<usize>
     match refused.refusal {
         Refusal::Scratch | Refusal::Room | Refusal::Call | Refusal::Length | Refusal::Size => None,
         Refusal::Word => Some(2 * place + 3),
-        Refusal::Register | Refusal::Delay | Refusal::Crossed | Refusal::Sum | Refusal::NoNeeds
-            | Refusal::Hold | Refusal::Order | Refusal::Unlike | Refusal::Pairs => Some(needs + 4 * place + 5),
+        Refusal::Register
+        | Refusal::Delay
+        | Refusal::Crossed
+        | Refusal::Sum
+        | Refusal::NoNeeds
+        | Refusal::Hold
+        | Refusal::Order
+        | Refusal::Unlike
+        | Refusal::Pairs => Some(needs + 4 * place + 5),
     }
 }
 

@@ -1,6 +1,5 @@
 -- `put_needs`: a line for each register.
 -- Invariant `Listing`: the lines of the first r registers are stored.
-use Prim.Native.Nat.{◌-◌}
 use Rattle.text_pieces.proofs.PutLaws.{Listing}
 use Rattle.list_text.specs.ListText.{two_width, needs_line}
 use Rattle.list_text.proofs.put_needs.Given as goal

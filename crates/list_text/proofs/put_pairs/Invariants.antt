@@ -1,6 +1,5 @@
 -- `put_pairs`: a line for each pair.
 -- Invariant `Listing`: the lines of the first k pairs are stored.
-use Prim.Native.Nat.{◌-◌}
 use Rattle.text_pieces.proofs.PutLaws.{Listing}
 use Rattle.list_text.specs.ListText.{pair_width, pair_line}
 use Rattle.list_text.proofs.put_pairs.Given as goal
