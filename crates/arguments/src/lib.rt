@@ -5,7 +5,7 @@
 ghost use Rattle.std.specs.Prelude.{◌≡◌};
 ghost use Rattle.arguments.specs.Arguments.{argument_of};
 
-use scan::{MAX_NUMBERS, Numbers};
+use scan::MAX_NUMBERS;
 use std::rt::Env;
 
 // The number that the text of an argument is; none where it is not one number in decimal.
@@ -14,7 +14,7 @@ pub fn number_of(text: &[u8]) -> Option<u32>
 {
     let mut numbers = [0u32; MAX_NUMBERS];
     match scan::scan(text, false, &mut numbers) {
-        Ok(Numbers { count: 1, .. }) => Some(numbers[0]),
+        Ok(found) if found.count == 1 => Some(numbers[0]),
         _ => None,
     }
 }
