@@ -94,17 +94,26 @@ module _ (ws vs : List ℕ) where
 
 -- ---- what was found of a part of the call
 
-module _ {A : Type 0} {part : PoolPart} where
-  pub part-refused : {f : Result A Refused} {r : Result A PoolRefused} {p : PoolRefused} → r ≡ part_of part f → r ≡ Err p
-      → Σ Refused (λ x. (f ≡ Err x) × (p ≡ refused_part part x))
-  unfolding part_of
-  part-refused {f = Ok x} e d = let z : ◌≡◌ {A = ℕ} 0 1 = cc in absurd (omega arith)
-  part-refused {f = Err x} e d = (x, (refl, cc))
+-- a refusal of the part
+pub record RefusedOf {A : Type 0} (part : PoolPart) (f : Result A Refused) (p : PoolRefused) : Type 0 where
+  pub at : Refused
+  pub was : f ≡ Err at
+  pub told : p ≡ refused_part part at
 
-  pub part-passed : {f : Result A Refused} {r : Result A PoolRefused} {x : A} → r ≡ part_of part f → r ≡ Ok x → f ≡ Ok x
+module _ {A : Type 0} (part : PoolPart) where
+  error_of : Refused → Result A PoolRefused → PoolRefused
+  error_of r (Ok x) = refused_part part r
+  error_of r (Err p) = p
+
+  pub part-refused : (f : Result A Refused) {r : Result A PoolRefused} {p : PoolRefused} → r ≡ part_of part f → r ≡ Err p → RefusedOf part f p
+  unfolding part_of error_of
+  part-refused (Ok x) {r} {p} e d = let z : ◌≡◌ {A = ℕ} 0 1 = cc in absurd (omega arith)
+  part-refused (Err x) {r} {p} e d = record { at = x; was = refl; told = ap (error_of x) (sym d ∙ e) }
+
+  pub part-passed : (f : Result A Refused) {r : Result A PoolRefused} {x : A} → r ≡ part_of part f → r ≡ Ok x → f ≡ Ok x
   unfolding part_of
-  part-passed {f = Ok y} e d = cc
-  part-passed {f = Err y} e d = let z : ◌≡◌ {A = ℕ} 0 1 = cc in absurd (omega arith)
+  part-passed (Ok y) e d = cc
+  part-passed (Err y) e d = let z : ◌≡◌ {A = ℕ} 0 1 = cc in absurd (omega arith)
 
 -- ---- the whole promise
 

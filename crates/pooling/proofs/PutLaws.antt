@@ -2,16 +2,15 @@
 -- around them the head, the needs and the end word.
 use Prim.Native.Nat.{ℕ, ◌+◌, ◌-◌, ◌*◌, ◌^◌, ◌≤◌, ◌<◌}
 use mathlib.Core.Bool.{cond}
-use mathlib.Core.List.{List, [], ◌∷◌, ◌++◌, append_assoc, append-nil}
+use mathlib.Core.List.{List, ◌++◌, append_assoc}
 use mathlib.Core.Path.{◌≡◌, sym, ◌∙◌, ap}
-use native.Mathlib.Numerals.{add-one}
 use native.Mathlib.Omega.{arith}
 use lib.Dec.{ltb}
-use lib.ListN.{length, get_or, take, set, length-append}
-use lib.Seq.{length-take-le, take_all, take-suc}
+use lib.ListN.{length, take, drop, length-append, length-drop}
+use lib.Seq.{length-take-le, drop-drop}
 use denote.Ref.{Bor}
 use Rattle.buffers.specs.Over.{over}
-use Rattle.buffers.proofs.FillLaws.{Filled, filled-self, filled-size, filled_put, set-put}
+use Rattle.buffers.proofs.FillLaws.{Filled, filled_put}
 use Rattle.words.specs.Word.{register_bits}
 use Rattle.list_format.specs.Lists.{pair_count, place_by}
 use Rattle.list_format.specs.Write.{three_of}
@@ -24,6 +23,17 @@ use Rattle.merging.proofs.MergingLaws.{accepted-walkable, threes-length}
 use Rattle.merging.proofs.RestLaws.{rest-words, pooled-words}
 use Rattle.pooling.specs.Pool.{PoolRoom}
 use Rattle.pooling.proofs.PoolLaws.{OneChip}
+
+-- a part of so many places, up to a place
+pub part-size : (xs mid : List ℕ) (end : ℕ) → length xs ≤ end → end ≤ length mid
+    → length (take (end - (end - length xs)) (drop (end - length xs) mid)) ≡ length xs
+part-size xs mid end h l =
+    let left : end - (end - length xs) ≡ length xs = omega arith in
+    rw left (length-take-le (length xs) (drop (end - length xs) mid) (rw length-drop (omega arith)))
+
+-- words that take the place of as many
+pub part-put : (at k : ℕ) (xs mid part : List ℕ) → k ≡ length xs → part ≡ xs → take at mid ++ (part ++ drop k (drop at mid)) ≡ put_at at xs mid
+part-put at k xs mid part e is = rw (is, e, drop-drop)
 
 -- ---- the pairs
 
