@@ -1,7 +1,7 @@
--- `put_bytes`: the bytes of all words are one piece from the first place on.
+-- `put_words`: the bytes of all words are one piece from the first place on.
 use native.Mathlib.Omega.{arith}
 use Rattle.convert_text.proofs.ConvertTextLaws.{bytes-put}
-use Rattle.convert_text.proofs.put_bytes.Goals as goal
+use Rattle.convert_text.proofs.put_words.Goals as goal
 
 pub returns : goal.returns
 returns c =
