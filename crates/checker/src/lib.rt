@@ -9,31 +9,29 @@ ghost use Rattle.list_format.specs.Lists.{registers, pairs, PairIn, UsableList};
 ghost use Rattle.checker.specs.Check.{smallest_at, met_at, first_broken, broken_rule, walked_on, Walked, answer_for};
 ghost use Rattle.checker.specs.Check.{some_above, timing_checks, CheckedAs};
 
-use list_format::Verdict;
-use refusals::Fault;
+use refusals::{Refusal, Refused};
 
-#[derive(Clone, Copy)]
+#[derive(Clone, Copy, Debug, PartialEq, Eq)]
 pub enum Rule {
     Setup,
     Hold,
 }
 
 // A margin, with the pair and the rule that have it.
-#[derive(Clone, Copy)]
+#[derive(Clone, Copy, Debug, PartialEq, Eq)]
 pub struct Smallest {
     pub margin: i64,
     pub pair: usize,
     pub rule: Rule,
 }
 
-// What checking comes to: a list without pairs, which every schedule meets; each pair meets both rules; the first pair that does not and the
-// rule that it breaks, setup named before hold; or a refusal with its place. Pairs come with the smallest margin of all.
-#[derive(Clone, Copy)]
+// What checking comes to: a list without pairs, which every schedule meets; each pair meets both rules; or the first pair that does not and
+// the rule that it breaks, setup named before hold. Pairs come with the smallest margin of all.
+#[derive(Clone, Copy, Debug, PartialEq, Eq)]
 pub enum Checking {
     NoPairs,
     Admissible(Smallest),
     Broken(usize, Rule, Smallest),
-    Refused(u32, usize),
 }
 
 // What a walk has come to: the smallest margin, and where that is negative the first pair that breaks a rule.
@@ -63,11 +61,12 @@ fn first_broken(words: &[u32], count: usize, period: u32, timings: &[u32]) -> us
     requires { UsableList words.now (length timings.now) count }
     ensures { result ≡ first_broken words.now period timings.now }
 {
-    let mut k = 0;
-    while k < count && meets(words, k, period, timings) {
-        k += 1;
+    for k in 0..count {
+        if !meets(words, k, period, timings) {
+            return k;
+        }
     }
-    k
+    count
 }
 
 // Whether each pair of a usable list meets both rules.
@@ -110,13 +109,16 @@ fn walked_on(walk: Walk, x: Smallest) -> Walk
     if x.margin >= walk.smallest.margin {
         return walk;
     }
-    let mut next = walk;
-    next.smallest = x;
     if walk.smallest.margin < 0 {
-        return next;
+        return Walk {
+            smallest: x,
+            ..walk
+        };
     }
-    next.broken = x.pair;
-    next
+    Walk {
+        smallest: x,
+        broken: x.pair,
+    }
 }
 
 // The walk over all pairs.
@@ -129,10 +131,8 @@ fn walked(words: &[u32], count: usize, period: u32, timings: &[u32]) -> Walk
         smallest: smaller_margin(words, 0, period, timings),
         broken: 0,
     };
-    let mut k = 1;
-    while k < count {
+    for k in 1..count {
         walk = walked_on(walk, smaller_margin(words, k, period, timings));
-        k += 1;
     }
     walk
 }
@@ -173,37 +173,26 @@ fn checked(words: &[u32], count: usize, period: u32, timings: &[u32]) -> Checkin
 fn above_limit(timings: &[u32]) -> bool
     ensures { result ≡ some_above timings.now }
 {
-    let mut i = 0;
-    while i < timings.len() {
-        if timings[i] > timing::MAX_TIMING {
-            return true;
-        }
-        i += 1;
-    }
-    false
+    timings.iter().any(|&x| x > timing::MAX_TIMING)
 }
 
 // 3: what is wrong with the call, for a list of n registers.
-fn call_fault(n: usize, period: u32, timings: &[u32]) -> Fault
+#[tactic(auto, unfolding(refusals::specs::Checks::or_check, refusals::specs::Checks::fault_after))]
+fn call_fault(n: usize, period: u32, timings: &[u32]) -> Result<(), Refused>
     ensures { result ≡ first_fault (timing_checks n period timings.now) }
 {
-    Fault::None
-        .or(period == 0, 3, 0)
-        .or(period > timing::MAX_PERIOD, 3, 0)
-        .or(timings.len() != n, 3, 0)
-        .or(above_limit(timings), 3, 0)
+    refusals::check(period == 0, Refusal::Call, 0)?;
+    refusals::check(period > timing::MAX_PERIOD, Refusal::Call, 0)?;
+    refusals::check(timings.len() != n, Refusal::Call, 0)?;
+    refusals::check(above_limit(timings), Refusal::Call, 0)
 }
 
 // Checks a schedule at a period. Refusals 11 to 20 of the list, then 3: the period or a timing out of range, or not a
 // timing for each register.
-pub fn check(words: &[u32], period: u32, timings: &[u32]) -> Checking
+pub fn check(words: &[u32], period: u32, timings: &[u32]) -> Result<Checking, Refused>
     ensures { CheckedAs words.now period timings.now result }
 {
-    match delay_list::verdict(words) {
-        Verdict::Refused(number, place) => Checking::Refused(number, place),
-        Verdict::Accepted(n, m) => match call_fault(n as usize, period, timings) {
-            Fault::At(number, place) => Checking::Refused(number, place),
-            Fault::None => checked(words, m as usize, period, timings),
-        },
-    }
+    let counts = delay_list::verdict(words)?;
+    call_fault(counts.registers as usize, period, timings)?;
+    Ok(checked(words, counts.pairs as usize, period, timings))
 }

@@ -43,11 +43,9 @@ fn sweep(words: &[u32], n: usize, m: usize, down: bool, scratch: &mut [u32]) -> 
     ensures { Pass words.now n (AllClosed words.now) scratch.old scratch.new result }
 {
     let mut all = Change::Settled;
-    let mut i = 0;
-    while i < m {
+    for i in 0..m {
         let o = step(words, n, m, delay_list::place(m, i, down), scratch);
-        all = marks::join(all, o);
-        i += 1;
+        all = all.max(o);
     }
     all
 }
@@ -73,10 +71,9 @@ fn record_pair(pair: Pair, period: u32, offset: u32, at: usize, flags: &mut [u32
     requires { at + per_pair ≤ length flags.old }
     ensures { flags.new ≡ take at flags.old ++ (flags_of period offset pair ++ drop (at + per_pair) flags.old) }
 {
-    flags[at] = marks::broken_flag(pair, period, offset, 0);
-    flags[at + 1] = marks::broken_flag(pair, period, offset, 1);
-    flags[at + 2] = marks::broken_flag(pair, period, offset, 2);
-    flags[at + 3] = marks::broken_flag(pair, period, offset, 3);
+    for k in 0..PER_PAIR {
+        flags[at + k] = marks::broken_flag(pair, period, offset, k);
+    }
 }
 
 // The broken choices of all pairs.
@@ -84,11 +81,9 @@ fn record_broken(words: &[u32], period: u32, offset: u32, m: usize, flags: &mut 
     requires { UsableList words.now (registers words.now) m × (per_pair * m ≤ length flags.old) }
     ensures { flags.new ≡ over (flags_to period offset words.now m) flags.old }
 {
-    let mut k = 0;
-    while k < m {
+    for k in 0..m {
         let pair = delay_list::pair_at(words, k);
         record_pair(pair, period, offset, PER_PAIR * k, flags);
-        k += 1;
     }
 }
 
@@ -123,9 +118,7 @@ pub fn write_split(marks: &[u32], n: usize, offset: u32, answer: &mut [u32])
     requires { (n ≤ length marks.now) × (n ≤ length answer.old) }
     ensures { answer.new ≡ over (timings offset (split_of (take n marks.now))) answer.old }
 {
-    let mut i = 0;
-    while i < n {
+    for i in 0..n {
         answer[i] = marks::time_of(offset, marks[i]);
-        i += 1;
     }
 }

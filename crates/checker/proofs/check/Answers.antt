@@ -1,28 +1,29 @@
 -- `check`: the list is refused, or the call, or the pairs decide. One law for each: the answer, and that it is sound and complete.
-use mathlib.Core.Path.{sym, ◌∙◌}
+use Rattle.std.proofs.Common.{sym, ◌∙◌, rules}
 use Rattle.checker.proofs.CheckLaws.{by-list, by_call, call-ready, by-pairs}
 use Rattle.checker.proofs.check.Goals as goal
 
 pub checked-requires : goal.checked-requires
 checked-requires c =
     let a = c.args in
-    call-ready a.words.now a.period a.timings.now (sym c.verdict.ensures ∙ c.in-Accepted.is)
-    c.call_fault.ensures c.in-None.is
+    call-ready a.words.now a.period a.timings.now (sym c.verdict.ensures ∙ c.in_ok-counts.was)
+    c.call_fault.ensures c.in_ok-call_fault.was
 
-pub returns-in-Refused : goal.returns-in-Refused
-returns-in-Refused c =
+pub returns-in_err-counts : goal.returns-in_err-counts
+returns-in_err-counts c =
     let a = c.args in
-    by-list a.words.now a.period a.timings.now (sym c.verdict.ensures ∙ c.in-Refused.is)
+    let stops = by-list a.words.now a.period a.timings.now (sym c.verdict.ensures ∙ c.in_err-counts.was) in
+    search (rules, stops)
 
-pub returns-in-At : goal.returns-in-At
-returns-in-At c =
+pub returns-in_err-call_fault : goal.returns-in_err-call_fault
+returns-in_err-call_fault c =
     let a = c.args in
-    by_call a.words.now a.period a.timings.now (sym c.verdict.ensures ∙ c.in-Accepted.is) c.call_fault.ensures
-    c.in-At.is
+    let stops = by_call a.words.now a.period a.timings.now (sym c.verdict.ensures ∙ c.in_ok-counts.was) c.call_fault.ensures c.in_err-call_fault.was in
+    search (rules, stops)
 
-pub returns-in-None : goal.returns-in-None
-returns-in-None c =
+pub returns : goal.returns
+returns c =
     let a = c.args in
-    by-pairs a.words.now a.period a.timings.now (sym c.verdict.ensures ∙ c.in-Accepted.is) c.call_fault.ensures
-    c.in-None.is
+    by-pairs a.words.now a.period a.timings.now (sym c.verdict.ensures ∙ c.in_ok-counts.was) c.call_fault.ensures
+    c.in_ok-call_fault.was
     c.checked.ensures

@@ -1,5 +1,5 @@
 -- `record_broken`: the flags of all pairs, four to a pair.
--- Invariant `Filling`: those of the first k pairs are stored. What falls: m - k.
+-- Invariant `Filling`: those of the first k pairs are stored.
 use mathlib.Core.Path.{refl}
 use Prim.Native.Nat.{◌*◌}
 use native.Mathlib.Omega.{arith}
