@@ -1,6 +1,7 @@
 // Lists, by the numbers of their pairs and the needs of their registers.
 use crate::largest;
 use crate::places::front;
+use refusals::Refused;
 use words::WordKind;
 
 // A pair: its launch and its capture register, and its least and its greatest delay.
@@ -47,14 +48,19 @@ impl<'a> List<'a> {
         self.needs.get(register as usize).copied().unwrap_or([0, 0])
     }
 
-    // The words of the list, stored in the first places; none if the writer refuses.
-    pub fn write(self, words: &mut [u32]) -> &[u32] {
-        let written = write_list::write(
+    // What the writer says of the list.
+    pub fn write_to(self, words: &mut [u32]) -> Result<usize, Refused> {
+        write_list::write(
             self.registers(),
             self.pairs.as_flattened(),
             self.needs.as_flattened(),
             words,
-        );
+        )
+    }
+
+    // The words of the list, stored in the first places; none if the writer refuses.
+    pub fn write(self, words: &mut [u32]) -> &[u32] {
+        let written = self.write_to(words);
         front(words, written.unwrap_or(0))
     }
 
@@ -68,6 +74,11 @@ impl<'a> List<'a> {
         );
         front(words, written.unwrap_or(0))
     }
+}
+
+// A list with needs.
+pub fn needy<'a>(pairs: &'a [Pair], needs: &'a [Needs]) -> List<'a> {
+    List { pairs, needs }
 }
 
 // A list of n registers without needs.

@@ -1,6 +1,7 @@
 // Numbers that look random, and lists of them.
 ghost use Rattle.std.specs.Prelude.{◌-◌, ◌^◌, ◌<◌, ◌≤◌};
 
+use crate::largest::{PAIRS, REGISTERS};
 use crate::lists::{List, Needs, Pair};
 use crate::places::front;
 
@@ -124,5 +125,19 @@ pub fn list<const N: usize, const M: usize>(
     if let Some(places) = d.pairs.get_mut(..d.m) {
         d.seed = next(pairs(after, n, delay, &d.needs, places));
     }
+    d
+}
+
+// A list of the largest size with needs up to `need`, and delays up to `delay` to which holds are added.
+pub fn largest(seed: u64, delay: u32, need: u32) -> Drawn<REGISTERS, PAIRS> {
+    let mut d = Drawn {
+        needs: [[0; 2]; REGISTERS],
+        pairs: [[0; 4]; PAIRS],
+        n: REGISTERS,
+        m: PAIRS,
+        seed,
+    };
+    needs(seed, need, &mut d.needs);
+    d.seed = pairs(seed, timing::MAX_REGISTERS, delay, &d.needs, &mut d.pairs);
     d
 }

@@ -1,5 +1,8 @@
 // The rules of a list straight from its numbers and its needs, and its splits.
 use crate::lists::{List, Pair};
+use crate::places::{kept, same};
+use refusals::Refused;
+use timing::{PER_PAIR, PER_REGISTER};
 
 // The registers of a list whose splits are searched at the most, and how many splits they have.
 pub const SPLIT: usize = 6;
@@ -37,6 +40,12 @@ impl<'a> List<'a> {
             .all(|p| self.setup_margin(*p, period, s) >= 0 && self.hold_margin(*p, s) >= 0)
     }
 
+    // The places of scratch that a split or a plan takes.
+    pub fn scratch(self) -> usize {
+        let registers = self.needs.len().saturating_mul(PER_REGISTER);
+        registers.saturating_add(self.pairs.len().saturating_mul(PER_PAIR))
+    }
+
     // The timings of the first split that works at a period and an offset.
     pub fn first_split(self, period: u32, offset: u32) -> Option<[u32; SPLIT]> {
         let n = self.needs.len().min(SPLIT);
@@ -47,6 +56,22 @@ impl<'a> List<'a> {
             }
         }
         None
+    }
+
+    // Whether a call came to the first split, whose timings stand in the first places of the answer; or to none, and all places are kept.
+    pub fn is_first_split(
+        self,
+        period: u32,
+        offset: u32,
+        said: Result<bool, Refused>,
+        answer: &[u32],
+    ) -> bool {
+        let n = self.needs.len();
+        match (said, self.first_split(period, offset)) {
+            (Ok(true), Some(s)) => same(answer, &s, n) && kept(answer, n),
+            (Ok(false), None) => kept(answer, 0),
+            _ => false,
+        }
     }
 }
 

@@ -1,5 +1,10 @@
 // A tally of what came of many runs.
+use crate::lists::List;
+use crate::random;
 use std::io;
+
+// Places enough for the words of a small list.
+const WORDS: usize = 64;
 
 // How a run fared. It is void where it is right and there was nothing to find.
 #[derive(Clone, Copy, PartialEq, Eq)]
@@ -70,4 +75,26 @@ pub fn many<F: Fn(u64) -> Turn>(seed: u64, turns: u32, turn: F) -> Tally
         next = t.seed;
     }
     tally
+}
+
+// How random lists of up to N registers and M pairs fare, with delays up to `delay`, more with a hold, and needs up to `need`. Each is
+// judged by the list and its words.
+pub fn many_lists<const N: usize, const M: usize, F: Fn(List<'_>, &[u32]) -> Fate>(
+    seed: u64,
+    lists: u32,
+    delay: u32,
+    need: u32,
+    judge: F,
+) -> Tally
+    requires { F.IsAlwaysCallable judge }
+{
+    many(seed, lists, |seed| {
+        let mut words = [0u32; WORDS];
+        let d = random::list::<N, M>(seed, N as u32, delay, need);
+        let list = d.list();
+        Turn {
+            seed: d.seed,
+            fate: judge(list, list.write(&mut words)),
+        }
+    })
 }
