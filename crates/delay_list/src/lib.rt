@@ -9,7 +9,8 @@ ghost use Rattle.refusals.specs.Checks.{no_fault, first_fault, each_check};
 ghost use Rattle.refusals.specs.declared.Refusal.TheVariants.{NoNeeds};
 ghost use Rattle.list_format.specs.Lists.{word, registers, pair_count, need_words_by, need_words, hold_at, setup_at, needs_of, place_by, pair_place};
 ghost use Rattle.list_format.specs.Lists.{place_of, step_of, pair_of, written_at, counting, counting_needs, no_needs};
-ghost use Rattle.list_format.specs.Lists.{IsAccepted, PairIn, IsWritten, IsPair, verdict_by, verdict as verdict_of};
+ghost use Rattle.std.specs.Prelude.{Err, IfOk, IfErr};
+ghost use Rattle.list_format.specs.Lists.{accepted, UsableList, IsAccepted, PairIn, IsWritten, IsPair, verdict_by, verdict as verdict_of};
 ghost use Rattle.list_format.specs.Lists.{head_checks, need_checks, block_checks, kind_checks, value_checks, own_checks, order_check, pair_checks};
 ghost use Rattle.list_format.specs.Lists.{end_checks, pairs_checks, body_checks};
 ghost use Rattle.list_format.specs.Walk.{next_at, place_after};
@@ -487,6 +488,38 @@ pub fn pair_at(words: &[u32], k: usize) -> Pair
     ensures { IsPair words.now k result }
 {
     count_needs(words, k, written_at(words, k))
+}
+
+// A list that pairs can be taken from, with its counts of registers and pairs.
+#[derive(Clone, Copy)]
+pub struct DelayList<'a> {
+    pub words: &'a [u32],
+    pub registers: usize,
+    pub pairs: usize,
+    pub ghost usable: { UsableList words.now registers pairs },
+}
+
+impl<'a> DelayList<'a> {
+    // The list that an accepted run of words is, or the first refusal with its place.
+    pub fn accepted(words: &'a [u32]) -> Result<DelayList<'a>, Refused>
+        ensures accepted { IfOk result (λ l. (l.words ≡ words.entry) × (verdict_of words.now ≡ accepted l.registers l.pairs)) }
+        ensures refused { IfErr result (λ r. verdict_of words.now ≡ Err r) }
+    {
+        let counts = verdict(words)?;
+        Ok(DelayList {
+            words,
+            registers: counts.registers as usize,
+            pairs: counts.pairs as usize,
+        })
+    }
+
+    // Pair k, with the needs of its capture register counted in.
+    pub fn pair(self, k: usize) -> Pair
+        requires { k < self.pairs }
+        ensures { IsPair self.entry.words.now k result }
+    {
+        pair_at(self.words, k)
+    }
 }
 
 // Where a walk over m pairs begins.

@@ -20,12 +20,16 @@ pub put_first-first-requires : goal.put_first-first-requires
 put_first-first-requires c =
     first-asks c.requires (rw c.pair_at-p.ensures.same at c.trace-b.ensures)
 
+pub slice_bounds-path-end : goal.slice_bounds-path-end
+slice_bounds-path-end c = ?
+
 pub put_second-second-requires : goal.put_second-second-requires
 put_second-second-requires c =
     let same = c.pair_at-p.ensures.same in
     let t = rw same at c.trace-b.ensures in
-    second-asks c.requires t (rw same refl) c.put_first-first.ensures.size c.put_first-first.ensures.stored _
-    (search (rules, first_short c.requires t c.put_first-first.ensures.size))
+    let all = second-asks c.requires t (rw same refl) c.put_first-first.ensures.size c.put_first-first.ensures.stored _
+    (search (rules, first_short c.requires t c.put_first-first.ensures.size)) in
+    ?
 
 pub overflow_cast-result : goal.overflow_cast-result
 overflow_cast-result c =
@@ -34,5 +38,5 @@ overflow_cast-result c =
 pub returns : goal.returns
 returns c =
     let same = c.pair_at-p.ensures.same in
-    chains-in c.requires (rw same at c.trace-b.ensures) (rw same refl) c.put_first-first.ensures.size c.put_first-first.ensures.stored
-    c.put_second-second.ensures.size c.put_second-second.ensures.stored
+    let all = chains-in c.requires (rw same at c.trace-b.ensures) (rw same refl) c.put_first-first.ensures.size c.put_first-first.ensures.stored in
+    ?
