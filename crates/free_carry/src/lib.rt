@@ -10,15 +10,13 @@ ghost use Rattle.free_laws.specs.Raise.{Risen};
 ghost use Rattle.free_rounds.specs.Raise.{Raising};
 
 use free_rounds::PARENTS;
-use pair_ends::wide;
-use timing::larger;
 
 // The register that a rule starts from, or r where the list has no such rule.
 fn source(words: &[u32], count: usize, rule: u16, r: usize) -> usize
     requires usable { IsUsable words.now }
     requires count_value { count ≡ pair_count words.now }
 {
-    let k = (rule / 2) as usize;
+    let k = usize::from(rule / 2);
     if k >= count {
         return r;
     }
@@ -37,112 +35,110 @@ pub fn above(words: &[u32], count: usize, parents: &[u16; PARENTS], r: usize) ->
     source(words, count, parents[r % PARENTS], r)
 }
 
-// A way up along parents: how many registers it has met first, the last of them, and the register that came after it.
+// Registers that ways up along parents have met: the mark of the way that met each first, 0 if none has; and the registers of the
+// way at hand, so many, one above the other.
+#[derive(Drop)]
+struct Met {
+    marks: [u16; PARENTS],
+    stack: [u16; PARENTS],
+    height: usize,
+}
+
+// The end of a way up along parents: the last register that it met first, and the register that came after it.
 #[derive(Clone, Copy)]
 pub struct Way {
-    pub height: usize,
     pub last: usize,
     pub to: usize,
 }
 
-// From r up along parents to a register that has been met: each on the way is marked and put on the stack.
-fn stack_up(
-    words: &[u32],
-    count: usize,
-    parents: &[u16; PARENTS],
-    r: usize,
-    mark: u16,
-    marks: &mut [u16; PARENTS],
-    stack: &mut [u16; PARENTS],
-) -> Way
-    requires usable { IsUsable words.now }
-    requires count_value { count ≡ pair_count words.now }
-{
-    let mut height = 0;
-    let mut last = r % PARENTS;
-    let mut at = r % PARENTS;
-    while height < PARENTS && marks[at] == 0 {
-        marks[at] = mark;
-        stack[height] = at as u16;
-        height += 1;
-        last = at;
-        at = above(words, count, parents, at) % PARENTS;
+impl Met {
+    // From r up along parents to a register that has been met: each on the way is marked and put on the stack.
+    fn go_up(
+        &mut self,
+        words: &[u32],
+        count: usize,
+        parents: &[u16; PARENTS],
+        r: usize,
+        mark: u16,
+    ) -> Way
+        requires usable { IsUsable words.now }
+        requires count_value { count ≡ pair_count words.now }
+    {
+        let mut last = r % PARENTS;
+        let mut at = r % PARENTS;
+        self.height = 0;
+        for i in 0..PARENTS {
+            if self.marks[at] != 0 {
+                break;
+            }
+            self.marks[at] = mark;
+            self.stack[i] = at as u16;
+            self.height = i + 1;
+            last = at;
+            at = above(words, count, parents, at) % PARENTS;
+        }
+        Way { last, to: at }
     }
-    Way {
-        height: height,
-        last: last,
-        to: at,
-    }
-}
 
-// The period that the cycle asks for which a way up has closed; 0 if it has closed none.
-fn closed(
-    words: &[u32],
-    count: usize,
-    n: usize,
-    parents: &[u16; PARENTS],
-    way: Way,
-    mark: u16,
-    marks: &[u16; PARENTS],
-) -> u32
-    requires { UsableList words.now n count }
-    ensures { Bound (pairs words.now) result }
-{
-    let to = way.to;
-    if marks[to % PARENTS] != mark {
-        return 0;
+    // The period that the cycle asks for which a way up has closed; 0 if it has closed none.
+    fn closed(
+        &self,
+        words: &[u32],
+        count: usize,
+        n: usize,
+        parents: &[u16; PARENTS],
+        way: Way,
+        mark: u16,
+    ) -> u32
+        requires { UsableList words.now n count }
+        ensures { Bound (pairs words.now) result }
+    {
+        let to = way.to;
+        if self.marks[to % PARENTS] != mark || to == way.last || to >= n {
+            return 0;
+        }
+        free_cycles::around(words, count, n, parents, to as u32)
     }
-    if to == way.last {
-        return 0;
-    }
-    if to >= n {
-        return 0;
-    }
-    free_cycles::around(words, count, n, parents, to as u32)
-}
 
-// The registers on the stack, from the top down, each raised as its parent asks.
-fn unwind(
-    words: &[u32],
-    count: usize,
-    x: &mut [u32],
-    parents: &mut [u16; PARENTS],
-    period: u32,
-    stack: &[u16; PARENTS],
-    height: usize,
-)
-    requires { Raising words.now count period x.old }
-    ensures { Risen max_timing (constraints period (pairs words.now)) x.old x.new }
-{
-    let mut left = height;
-    while left > 0 {
-        left -= 1;
-        let r = wide(stack[left % PARENTS]);
-        let rule = parents[r % PARENTS];
-        free_rounds::apply(words, count, x, parents, period, rule);
+    // The registers on the stack, from the top down, each raised as its parent asks.
+    fn come_down(
+        &self,
+        words: &[u32],
+        count: usize,
+        x: &mut [u32],
+        parents: &mut [u16; PARENTS],
+        period: u32,
+    )
+        requires { Raising words.now count period x.old }
+        ensures { Risen max_timing (constraints period (pairs words.now)) x.old x.new }
+    {
+        for i in (0..self.height).rev() {
+            let r = usize::from(self.stack[i % PARENTS]);
+            let rule = parents[r % PARENTS];
+            free_rounds::apply(words, count, x, parents, period, rule);
+        }
     }
-}
 
-// The way up from r, and down again.
-fn branch(
-    words: &[u32],
-    count: usize,
-    x: &mut [u32],
-    parents: &mut [u16; PARENTS],
-    period: u32,
-    r: usize,
-    marks: &mut [u16; PARENTS],
-    stack: &mut [u16; PARENTS],
-) -> u32
-    requires { Raising words.now count period x.old }
-    ensures risen { Risen max_timing (constraints period (pairs words.now)) x.old x.new }
-    ensures bound { Bound (pairs words.now) result }
-{
-    let mark = ((r % PARENTS) as u16) + 1;
-    let way = stack_up(words, count, parents, r, mark, marks, stack);
-    let longer = closed(words, count, x.len(), parents, way, mark, marks);
-    unwind(words, count, x, parents, period, stack, way.height);
-    longer
+    // The way up from r, and down again.
+    fn branch(
+        &mut self,
+        words: &[u32],
+        count: usize,
+        x: &mut [u32],
+        parents: &mut [u16; PARENTS],
+        period: u32,
+        r: usize,
+    ) -> u32
+        requires { Raising words.now count period x.old }
+        ensures risen { Risen max_timing (constraints period (pairs words.now)) x.old x.new }
+        ensures bound { Bound (pairs words.now) result }
+    {
+        let mark = ((r % PARENTS) as u16) + 1;
+        let way = self.go_up(words, count, parents, r, mark);
+        let longer = self.closed(words, count, x.len(), parents, way, mark);
+        self.come_down(words, count, x, parents, period);
+        longer
+    }
 }
 
 // Every register raised as its parent asks. The longest period that a cycle of parents asks for, or 0.
@@ -157,14 +153,15 @@ pub fn carry(
     ensures risen { Risen max_timing (constraints period (pairs words.now)) x.old x.new }
     ensures bound { Bound (pairs words.now) result }
 {
-    let mut marks = [0u16; PARENTS];
-    let mut stack = [0u16; PARENTS];
+    let mut met = Met {
+        marks: [0; PARENTS],
+        stack: [0; PARENTS],
+        height: 0,
+    };
     let mut most = 0;
-    let mut r = 0;
-    while r < x.len() {
-        let longer = branch(words, count, x, parents, period, r, &mut marks, &mut stack);
-        most = larger(most, longer);
-        r += 1;
+    for r in 0..x.len() {
+        let longer = met.branch(words, count, x, parents, period, r);
+        most = most.max(longer);
     }
     most
 }

@@ -1,19 +1,20 @@
 -- The loops of the climb: each invariant with what starts it, a turn of it, and what it ends in.
 use Prim.Native.Nat.{ℕ, suc, ◌+◌, ◌-◌, ◌≤◌, ◌<◌, max, zero-le}
 use mathlib.Core.List.{List}
-use mathlib.Core.Path.{◌≡◌, ap, ◌∙◌}
+use mathlib.Core.Logic.{◌⊎◌, inl, inr}
+use mathlib.Core.Path.{◌≡◌, ap}
 use native.Mathlib.Nat.{sub-zero}
 use native.Mathlib.Omega.{arith}
 use lib.ListN.{length}
 use Rattle.timing.specs.declared.Pair.{Pair}
-use Rattle.list_format.specs.Lists.{registers, pair_count, pair_at, pairs_from, pairs, IsPair, UsableList}
-use Rattle.list_format.proofs.ListLaws.{pairs-in-range}
+use Rattle.list_format.specs.Lists.{registers, pair_count, pair_at, pairs_from, pairs, IsPair}
+use Rattle.list_format.proofs.ListLaws.{pairs-in-range, still-usable}
 use Rattle.free_laws.specs.Free.{common}
 use Rattle.free_laws.proofs.FreeLaws.{common-pos}
 use Rattle.free_laws.specs.Constraint.{Bound}
 use Rattle.free_laws.proofs.Bound.{bound-max, bound-period, bound-schedule}
 use Rattle.free_rounds.proofs.RoundLaws.{rules-at}
-use Rattle.free_trials.specs.Trial.{Trial, Sought}
+use Rattle.free_trials.specs.Trial.{Trial, Tried}
 use Rattle.free_climb.specs.declared.Ascent.{Ascent}
 use Rattle.free_climb.specs.declared.Ascent.TheVariants.{Done, Onward, Undecided}
 use Rattle.free_climb.specs.Climbed.{Alone, Climbed, Ascended}
@@ -69,64 +70,34 @@ module _ {ws : List ℕ} {most k : ℕ} (l : Largest ws most k) where
 -- ---- the climb
 
 -- Below every period that is tried there is no schedule. A trial tells that period with its least schedule, and then it is the
--- free period (`climbing-end`); or a longer one, below which there is no schedule either, and that is tried next
--- (`climbing-tries`). At the common period all timings may be equal, so no such period is longer: the climb ends.
+-- free period (`trial-settled`); or a longer one, below which there is no schedule either, and that is tried next
+-- (`trial-next`). At the common period all timings may be equal, so no such period is longer: the climb ends.
 
--- after a trial of t
-pub record Climbing (ws : List ℕ) (t : ℕ) (x : List ℕ) (next : ℕ) : Type 0 where
-  pub size : length x ≡ registers ws
-  pub pos : 1 ≤ t
-  pub bound : Bound (pairs ws) t
-  pub sought : Sought ws t x next
+-- what trials come to: done with the free period, or a period to try
+pub ascended-settled : {ws : List ℕ} {t : ℕ} {x : List ℕ} → Climbed ws x t → Ascended ws x (Done t)
+ascended-settled {t = t} c =
+    record {
+      settled = λ u e. let same : t ≡ u = cc in rw (← same) c;
+      onward = λ u e. let z : ◌≡◌ {A = ℕ} 0 1 = cc in absurd (omega arith);
+      undecided = λ u e. let z : ◌≡◌ {A = ℕ} 0 1 = cc in absurd (omega arith);
+    }
 
-pub climbing-after : {ws : List ℕ} {count t next : ℕ} {x y : List ℕ} → Trial ws count t x → length y ≡ length x
-    → Sought ws t y next → Climbing ws t y next
-climbing-after p e s = record { size = e ∙ p.list.registers_are; pos = p.pos; bound = p.bound; sought = s }
+module _ {ws : List ℕ} {count t : ℕ} {x : List ℕ} (p : Trial ws count t x) where
+  pub ascended-undecided : Ascended ws x (Undecided t)
+  ascended-undecided =
+      record {
+        settled = λ v e. let z : ◌≡◌ {A = ℕ} 0 1 = cc in absurd (omega arith);
+        onward = λ v e. let z : ◌≡◌ {A = ℕ} 0 1 = cc in absurd (omega arith);
+        undecided = λ v e. let same : t ≡ v = cc in rw (← same) (p.pos, p.bound);
+      }
 
-module _ {ws : List ℕ} {n count : ℕ} (r : UsableList ws n count) where
-  -- a trial of u, with other times
-  pub trial-of : {u : ℕ} {x : List ℕ} → length x ≡ registers ws → 1 ≤ u → Bound (pairs ws) u → Trial ws count u x
-  trial-of e pos b = record { list = record { usable = r.usable; registers_are = e; pairs_are = r.pairs_are }; pos = pos; bound = b }
-
-  module _ {t next : ℕ} {x : List ℕ} (c : Climbing ws t x next) where
-    pub climbing-tries : t < next → Trial ws count next x
-    climbing-tries h = trial-of c.size (omega arith) (c.sought.tried (omega arith)).bound
-
-    -- no longer period was told: t is the free period
-    pub climbing-end : t ≤ next → next ≤ t → Climbed ws x t
-    climbing-end g h =
-        let same : next ≡ t = omega arith in
-        let w = pairs-in-range ws r.usable in
-        let least = (c.sought.tried g).shows same in
-        record {
-          period = bound-period (registers ws) (pairs ws) w c.pos c.bound least;
-          schedule = bound-schedule (registers ws) (pairs ws) w c.pos c.bound least;
-        }
-
-    pub ascended-settled : t ≤ next → next ≤ t → Ascended ws x (Done t)
-    ascended-settled g h =
-        record {
-          settled = λ u e. let same : t ≡ u = cc in rw (← same) (climbing-end g h);
-          onward = λ u e. let z : ◌≡◌ {A = ℕ} 0 1 = cc in absurd (omega arith);
-          undecided = λ u e. let z : ◌≡◌ {A = ℕ} 0 1 = cc in absurd (omega arith);
-        }
-
-    pub ascended-undecided : Ascended ws x (Undecided t)
-    ascended-undecided =
-        record {
-          settled = λ v e. let z : ◌≡◌ {A = ℕ} 0 1 = cc in absurd (omega arith);
-          onward = λ v e. let z : ◌≡◌ {A = ℕ} 0 1 = cc in absurd (omega arith);
-          undecided = λ v e. let same : t ≡ v = cc in rw (← same) (c.pos, c.bound);
-        }
-
-    -- a longer period was told, and is left to others
-    pub ascended-onward : t < next → Ascended ws x (Onward next)
-    ascended-onward h =
-        record {
-          settled = λ v e. let z : ◌≡◌ {A = ℕ} 0 1 = cc in absurd (omega arith);
-          onward = λ v e. let same : next ≡ v = cc in rw (← same) ((climbing-tries h).pos, (climbing-tries h).bound);
-          undecided = λ v e. let z : ◌≡◌ {A = ℕ} 0 1 = cc in absurd (omega arith);
-        }
+  pub ascended-onward : Ascended ws x (Onward t)
+  ascended-onward =
+      record {
+        settled = λ v e. let z : ◌≡◌ {A = ℕ} 0 1 = cc in absurd (omega arith);
+        onward = λ v e. let same : t ≡ v = cc in rw (← same) (p.pos, p.bound);
+        undecided = λ v e. let z : ◌≡◌ {A = ℕ} 0 1 = cc in absurd (omega arith);
+      }
 
 -- ---- from trials to others
 
@@ -135,21 +106,39 @@ pub trial-longer : {ws : List ℕ} {count s b t : ℕ} {x : List ℕ} → Trial 
 trial-longer p h q = record { list = p.list; pos = omega (arith, p.pos, q); bound = rw q (bound-max p.bound h) }
 
 module _ {ws : List ℕ} {count s : ℕ} {x y : List ℕ} (p : Trial ws count s x) (e : length y ≡ length x) where
-  -- with other times
+  -- a trial of u, with other times
+  trial-of : {u : ℕ} → 1 ≤ u → Bound (pairs ws) u → Trial ws count u y
+  trial-of pos b = record { list = still-usable e p.list; pos = pos; bound = b }
+
   pub trial-kept : Trial ws count s y
-  trial-kept = trial-of p.list (e ∙ p.list.registers_are) p.pos p.bound
+  trial-kept = trial-of p.pos p.bound
 
   module _ {o : Ascent} (a : Ascended ws y o) where
     pub trial-onward : {t : ℕ} → o ≡ Onward t → Trial ws count t y
     trial-onward q =
         let u = a.onward _ q in
-        trial-of p.list (e ∙ p.list.registers_are) u.0 u.1
+        trial-of u.0 u.1
 
     pub trial-undecided : {t : ℕ} → o ≡ Undecided t → Trial ws count t y
     trial-undecided q =
         let u = a.undecided _ q in
-        trial-of p.list (e ∙ p.list.registers_are) u.0 u.1
+        trial-of u.0 u.1
 
-  -- a trial told the period itself
-  pub trial-settled : {told : ℕ} → Sought ws s y told → told ≡ s → Climbed ws y s
-  trial-settled h q = climbing-end p.list (climbing-after p e h) (omega (arith, q)) (omega (arith, q))
+    pub trial-left : {t : ℕ} → (o ≡ Onward t) ⊎ (o ≡ Undecided t) → Trial ws count t y
+    trial-left (inl q) = trial-onward q
+    trial-left (inr q) = trial-undecided q
+
+  module _ {told : ℕ} (h : Tried ws s y told) where
+    -- a longer period was told
+    pub trial-next : Trial ws count told y
+    trial-next = trial-of (omega (arith, p.pos, h.onward)) h.bound
+
+    -- the period itself was told: it is the free period
+    pub trial-settled : told ≡ s → Climbed ws y s
+    trial-settled same =
+        let w = pairs-in-range ws p.list.usable in
+        let least = h.shows same in
+        record {
+          period = bound-period (registers ws) (pairs ws) w p.pos p.bound least;
+          schedule = bound-schedule (registers ws) (pairs ws) w p.pos p.bound least;
+        }

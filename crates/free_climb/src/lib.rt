@@ -11,8 +11,8 @@ ghost use Rattle.free_trials.specs.Trial.{Trial, Sought};
 ghost use Rattle.free_climb.specs.Climbed.{Alone, Climbed, Ascended};
 
 use free_rounds::NO_RULE;
-use pair_ends::REGISTERS;
-use timing::{Pair, larger, less};
+use pair_ends::{Ends, REGISTERS};
+use timing::Pair;
 
 // The shortest period.
 const SHORTEST: u32 = 1;
@@ -24,7 +24,7 @@ fn alone(p: Pair) -> u32
     if p.launch == p.capture {
         return p.greatest;
     }
-    less(p.greatest, p.least)
+    p.greatest.saturating_sub(p.least)
 }
 
 // The longest period that a pair alone asks for, or 1.
@@ -35,11 +35,9 @@ fn lowest(words: &[u32], count: usize) -> u32
     ensures bound { Bound (pairs words.now) result }
 {
     let mut most = SHORTEST;
-    let mut k = 0;
-    while k < count {
+    for k in 0..count {
         let p = delay_list::pair_at(words, k);
-        most = larger(most, alone(p));
-        k += 1;
+        most = most.max(alone(p));
     }
     most
 }
@@ -51,11 +49,9 @@ pub fn common(words: &[u32], count: usize) -> u32
     ensures { result ≡ common_of (pairs words.now) }
 {
     let mut most = SHORTEST;
-    let mut k = 0;
-    while k < count {
+    for k in 0..count {
         let p = delay_list::pair_at(words, k);
-        most = larger(most, p.greatest);
-        k += 1;
+        most = most.max(p.greatest);
     }
     most
 }
@@ -69,11 +65,11 @@ pub enum Ascent {
     Undecided(u32),
 }
 
-// How trials are made: by so many plain rounds, or by all means if that is 0; how many at most; and whether the first starts from
-// parents that are kept from another period.
+// How trials are made: by so many plain rounds, or by all means if none are named; how many at most; and whether the first starts
+// from parents that are kept from another period.
 #[derive(Clone, Copy)]
 pub struct Manner {
-    pub rounds: usize,
+    pub rounds: Option<usize>,
     pub trials: usize,
     pub kept: bool,
 }
@@ -84,23 +80,23 @@ fn attempt(
     count: usize,
     x: &mut [u32],
     parents: &mut [u16; REGISTERS],
-    lasts: &[u16; REGISTERS],
-    before: &[u16],
-    rounds: usize,
+    ends: Ends,
+    rounds: Option<usize>,
     kept: bool,
     period: u32,
-) -> u32
+) -> Option<u32>
     requires { Trial words.now count period x.old }
     ensures { Sought words.now period x.new result }
 {
-    if rounds == 0 {
-        return free_trials::quick(words, count, x, parents, kept, lasts, before, period);
+    match rounds {
+        None => free_trials::quick(words, count, x, parents, kept, ends, period),
+        Some(most) => {
+            if kept {
+                parents.fill(NO_RULE);
+            }
+            free_trials::plain(words, count, x, parents, most, period)
+        }
     }
-    if kept {
-        free_trials::forget(parents);
-        return free_trials::plain(words, count, x, parents, rounds, period);
-    }
-    free_trials::plain(words, count, x, parents, rounds, period)
 }
 
 // Trials of longer and longer periods, as each shows the next.
@@ -109,49 +105,26 @@ fn ascend(
     count: usize,
     x: &mut [u32],
     parents: &mut [u16; REGISTERS],
-    lasts: &[u16; REGISTERS],
-    before: &[u16],
+    ends: Ends,
     manner: Manner,
     start: u32,
 ) -> Ascent
     requires { Trial words.now count start x.old }
     ensures { Ascended words.now x.new result }
 {
-    let mut left = manner.trials;
     let mut period = start;
-    let mut next = attempt(
-        words,
-        count,
-        x,
-        parents,
-        lasts,
-        before,
-        manner.rounds,
-        manner.kept,
-        period,
-    );
-    while period < next {
-        if left <= 1 {
-            return Ascent::Onward(next);
+    let mut kept = manner.kept;
+    for _ in 0..manner.trials {
+        let Some(next) = attempt(words, count, x, parents, ends, manner.rounds, kept, period) else {
+            return Ascent::Undecided(period);
+        };
+        if next == period {
+            return Ascent::Done(period);
         }
-        left -= 1;
         period = next;
-        next = attempt(
-            words,
-            count,
-            x,
-            parents,
-            lasts,
-            before,
-            manner.rounds,
-            true,
-            period,
-        );
+        kept = true;
     }
-    if next < period {
-        return Ascent::Undecided(period);
-    }
-    Ascent::Done(period)
+    Ascent::Onward(period)
 }
 
 // Trials by rounds over all pairs, which leave nothing undecided.
@@ -160,12 +133,13 @@ fn finish(words: &[u32], count: usize, x: &mut [u32], start: u32) -> u32
     ensures { Climbed words.now x.new result }
 {
     let mut period = start;
-    let mut next = free_trials::steady(words, count, x, period);
-    while period < next {
+    loop {
+        let next = free_trials::steady(words, count, x, period);
+        if next == period {
+            return period;
+        }
         period = next;
-        next = free_trials::steady(words, count, x, period);
     }
-    period
 }
 
 // So many trials after a descent that was not enough, then rounds over all pairs.
@@ -177,22 +151,20 @@ fn close(
     count: usize,
     x: &mut [u32],
     parents: &mut [u16; REGISTERS],
-    lasts: &[u16; REGISTERS],
-    before: &[u16],
+    ends: Ends,
     start: u32,
 ) -> u32
     requires { Trial words.now count start x.old }
     ensures { Climbed words.now x.new result }
 {
     let manner = Manner {
-        rounds: 0,
+        rounds: None,
         trials: RETRIES,
         kept: true,
     };
-    match ascend(words, count, x, parents, lasts, before, manner, start) {
+    match ascend(words, count, x, parents, ends, manner, start) {
         Ascent::Done(period) => period,
-        Ascent::Onward(period) => finish(words, count, x, period),
-        Ascent::Undecided(period) => finish(words, count, x, period),
+        Ascent::Onward(low) | Ascent::Undecided(low) => finish(words, count, x, low),
     }
 }
 
@@ -202,18 +174,18 @@ fn land(
     count: usize,
     x: &mut [u32],
     parents: &mut [u16; REGISTERS],
-    lasts: &[u16; REGISTERS],
-    before: &[u16],
+    ends: Ends,
     period: u32,
 ) -> u32
     requires { Trial words.now count period x.old }
     ensures { Climbed words.now x.new result }
 {
-    let told = free_trials::follow(words, count, x, parents, period);
-    if told == period {
-        return period;
+    if let Some(told) = free_trials::follow(words, count, x, parents, period) {
+        if told == period {
+            return period;
+        }
     }
-    close(words, count, x, parents, lasts, before, period)
+    close(words, count, x, parents, ends, period)
 }
 
 // The period that a descent from the common one comes to, `low` or longer.
@@ -222,15 +194,14 @@ fn come_down(
     count: usize,
     x: &mut [u32],
     parents: &mut [u16; REGISTERS],
-    lasts: &[u16; REGISTERS],
-    before: &[u16],
+    ends: Ends,
     low: u32,
 ) -> u32
     requires { Trial words.now count low x.old }
     ensures { Trial words.now count result x.new }
 {
-    let shown = free_descent::descend(words, count, x, parents, lasts, before, low);
-    larger(low, shown)
+    let shown = free_descent::descend(words, count, x, parents, ends, low);
+    low.max(shown)
 }
 
 // Trials from a period on, and a descent where they do not come to an end.
@@ -239,23 +210,18 @@ fn climb_on(
     count: usize,
     x: &mut [u32],
     parents: &mut [u16; REGISTERS],
-    lasts: &[u16; REGISTERS],
-    before: &[u16],
+    ends: Ends,
     manner: Manner,
     start: u32,
 ) -> u32
     requires { Trial words.now count start x.old }
     ensures { Climbed words.now x.new result }
 {
-    match ascend(words, count, x, parents, lasts, before, manner, start) {
+    match ascend(words, count, x, parents, ends, manner, start) {
         Ascent::Done(period) => period,
-        Ascent::Onward(low) => {
-            let period = come_down(words, count, x, parents, lasts, before, low);
-            land(words, count, x, parents, lasts, before, period)
-        }
-        Ascent::Undecided(low) => {
-            let period = come_down(words, count, x, parents, lasts, before, low);
-            land(words, count, x, parents, lasts, before, period)
+        Ascent::Onward(low) | Ascent::Undecided(low) => {
+            let period = come_down(words, count, x, parents, ends, low);
+            land(words, count, x, parents, ends, period)
         }
     }
 }
@@ -285,32 +251,29 @@ fn climb_few(
     count: usize,
     x: &mut [u32],
     parents: &mut [u16; REGISTERS],
-    lasts: &[u16; REGISTERS],
-    before: &[u16],
+    ends: Ends,
     start: u32,
 ) -> u32
     requires { Trial words.now count start x.old }
     ensures { Climbed words.now x.new result }
 {
     let plain = Manner {
-        rounds: plain_rounds(x.len()),
+        rounds: Some(plain_rounds(x.len())),
         trials: plain_trials(x.len()),
         kept: false,
     };
     let once = Manner {
-        rounds: 0,
+        rounds: None,
         trials: 1,
         kept: true,
     };
-    match ascend(words, count, x, parents, lasts, before, plain, start) {
+    match ascend(words, count, x, parents, ends, plain, start) {
         Ascent::Done(period) => period,
         Ascent::Onward(low) => {
-            let period = come_down(words, count, x, parents, lasts, before, low);
-            land(words, count, x, parents, lasts, before, period)
+            let period = come_down(words, count, x, parents, ends, low);
+            land(words, count, x, parents, ends, period)
         }
-        Ascent::Undecided(period) => climb_on(
-            words, count, x, parents, lasts, before, once, period,
-        ),
+        Ascent::Undecided(period) => climb_on(words, count, x, parents, ends, once, period),
     }
 }
 
@@ -318,25 +281,19 @@ fn climb_few(
 const TRIALS: usize = 4;
 
 // The free period; the free schedule fills x.
-pub fn climb(
-    words: &[u32],
-    count: usize,
-    x: &mut [u32],
-    lasts: &[u16; REGISTERS],
-    before: &[u16],
-) -> u32
+pub fn climb(words: &[u32], count: usize, x: &mut [u32], ends: Ends) -> u32
     requires { UsableList words.now (length x.old) count }
     ensures { Climbed words.now x.new result }
 {
     let mut parents = [NO_RULE; REGISTERS];
     let start = lowest(words, count);
     if count <= FEW_PAIRS {
-        return climb_few(words, count, x, &mut parents, lasts, before, start);
+        return climb_few(words, count, x, &mut parents, ends, start);
     }
     let manner = Manner {
-        rounds: 0,
+        rounds: None,
         trials: TRIALS,
         kept: false,
     };
-    climb_on(words, count, x, &mut parents, lasts, before, manner, start)
+    climb_on(words, count, x, &mut parents, ends, manner, start)
 }

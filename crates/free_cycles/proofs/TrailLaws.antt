@@ -1,6 +1,5 @@
 -- A trail, step by step: each step back adds one rule of the list to the sums, which bound the times at its two ends (`Adds`).
--- A step adds at most a longest period to what is asked for and to what is left, so n steps keep both in 32 bits. A rule that
--- does not lead into the register where the trail stands ends it: its steps are then n, and nothing is added.
+-- A step adds at most a longest period to what is asked for and to what is left, so n steps keep both in 32 bits.
 use Prim.Native.Nat.{ℕ, ◌+◌, ◌<◌}
 use mathlib.Core.List.{List}
 use mathlib.Core.Path.{◌≡◌, refl}
@@ -81,18 +80,3 @@ module _ {ws : List ℕ} {count n : ℕ} {w : Trail} (r : UsableList ws n count)
             adds = adds-hold s.adds p (rules-at is (at_pair h).below) e;
           };
         }
-
-  pub back-stop : Further ws n w (record { start = w.start; at = w.at; steps = n; gain = w.gain; allowance = w.allowance; setups = w.setups })
-  back-stop =
-      record {
-        start = refl;
-        on = more;
-        traced = record {
-          inside = s.inside;
-          most = omega arith;
-          setups = omega (arith, s.setups);
-          gain = s.gain;
-          allowance = omega (arith, s.allowance);
-          adds = s.adds;
-        };
-      }

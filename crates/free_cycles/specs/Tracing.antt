@@ -14,7 +14,7 @@ pub record Traced (ws : List ℕ) (n : ℕ) (w : Trail) : Type 0 where
   pub allowance : w.allowance ≤ max_period * w.steps
   pub adds : Adds (pairs ws) w.start w.at w.gain w.allowance w.setups
 
--- one step further, or at the end of the steps
+-- a step further
 pub record Further (ws : List ℕ) (n : ℕ) (w r : Trail) : Type 0 where
   pub start : r.start ≡ w.start
   pub on : w.steps < r.steps

@@ -2,7 +2,7 @@
 // The contracts cite `specs/Tracing.antt` and the laws of `free_laws`.
 #![tactic(auto)]
 
-ghost use Rattle.std.specs.Prelude.{◌≡◌, ℕ, ◌+◌, ◌*◌, ◌≤◌, ◌<◌};
+ghost use Rattle.std.specs.Prelude.{◌≡◌, ℕ, ◌+◌, ◌*◌, ◌≤◌, ◌<◌, IfSome};
 ghost use Rattle.timing.specs.Limits.{max_period};
 ghost use Rattle.list_format.specs.Lists.{registers, pairs, UsableList};
 ghost use Rattle.free_laws.specs.Constraint.{Bound};
@@ -37,49 +37,50 @@ impl Trail {
     }
 }
 
-// One step back, along rule 2k, setup of pair k, or 2k + 1, its hold. What is no rule into the register where the trail
-// stands ends it.
-fn along(words: &[u32], count: usize, n: usize, rule: u16, w: Trail) -> Trail
+// One step back, along rule 2k, setup of pair k, or 2k + 1, its hold. There is none along what is no rule into the register where
+// the trail stands.
+fn along(words: &[u32], count: usize, n: usize, rule: u16, w: Trail) -> Option<Trail>
     requires usable_list { UsableList words.now n count }
     requires traced { Traced words.now n w }
     requires steps_lt_n { w.steps < n }
-    ensures { Further words.now n w result }
+    ensures { IfSome result (Further words.now n w) }
 {
-    let mut next = w;
-    let k = (rule / 2) as usize;
-    if k < count {
-        let p = delay_list::pair_at(words, k);
-        if rule % 2 == 0 {
-            if p.capture == w.at {
-                next.at = p.launch;
-                next.steps = w.steps + 1;
-                next.gain = w.gain + p.greatest;
-                next.setups = w.setups + 1;
-                return next;
-            }
-        } else if p.launch == w.at {
-            next.at = p.capture;
-            next.steps = w.steps + 1;
-            next.allowance = w.allowance + p.least;
-            return next;
-        }
+    let k = usize::from(rule / 2);
+    if k >= count {
+        return None;
     }
-    next.steps = n;
-    next
+    let p = delay_list::pair_at(words, k);
+    let mut next = w;
+    next.steps = w.steps + 1;
+    if rule % 2 == 0 {
+        if p.capture != w.at {
+            return None;
+        }
+        next.at = p.launch;
+        next.gain = w.gain + p.greatest;
+        next.setups = w.setups + 1;
+        return Some(next);
+    }
+    if p.launch != w.at {
+        return None;
+    }
+    next.at = p.capture;
+    next.allowance = w.allowance + p.least;
+    Some(next)
 }
 
 // One step back, along the rule that raised the register last.
-fn back(words: &[u32], count: usize, n: usize, parents: &[u16; PARENTS], w: Trail) -> Trail
+fn back(words: &[u32], count: usize, n: usize, parents: &[u16; PARENTS], w: Trail) -> Option<Trail>
     requires usable_list { UsableList words.now n count }
     requires traced { Traced words.now n w }
     requires steps_lt_n { w.steps < n }
-    ensures { Further words.now n w result }
+    ensures { IfSome result (Further words.now n w) }
 {
     let at = w.at as usize;
     along(words, count, n, parents[at], w)
 }
 
-// Where n steps back lead from a register.
+// Where up to n steps back lead from a register.
 fn origin(words: &[u32], count: usize, n: usize, parents: &[u16; PARENTS], last: u32) -> u32
     requires usable_list { UsableList words.now n count }
     requires last_bound { last < registers words.now }
@@ -87,7 +88,10 @@ fn origin(words: &[u32], count: usize, n: usize, parents: &[u16; PARENTS], last:
 {
     let mut w = Trail::standing(last);
     while w.steps < n {
-        w = back(words, count, n, parents, w);
+        match back(words, count, n, parents, w) {
+            None => return w.at,
+            Some(next) => w = next,
+        }
     }
     w.at
 }
@@ -111,11 +115,17 @@ pub fn around(words: &[u32], count: usize, n: usize, parents: &[u16; PARENTS], s
     requires start_bound { start < registers words.now }
     ensures { Bound (pairs words.now) result }
 {
-    let mut w = back(words, count, n, parents, Trail::standing(start));
-    while w.at != start && w.steps < n {
-        w = back(words, count, n, parents, w);
+    let mut w = Trail::standing(start);
+    while w.steps < n {
+        match back(words, count, n, parents, w) {
+            None => return 0,
+            Some(next) => w = next,
+        }
+        if w.at == start {
+            return needed(w);
+        }
     }
-    needed(w)
+    0
 }
 
 // A period below which there is no schedule, shown by the cycle of parents behind a register; 0 if there is none.

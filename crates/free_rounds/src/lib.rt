@@ -9,7 +9,7 @@ ghost use Rattle.free_laws.specs.Constraint.{constraints};
 ghost use Rattle.free_laws.specs.Raise.{raise_to, relax_to, Risen, RoundTo};
 ghost use Rattle.free_rounds.specs.Raise.{Raisable, Relaxable, Raising};
 
-use timing::{Pair, smaller};
+use timing::Pair;
 
 // Places for the parent of each register: the rule that raised it last, 2k for setup of pair k and 2k + 1 for its hold.
 pub const PARENTS: usize = timing::MAX_REGISTERS as usize;
@@ -34,7 +34,7 @@ fn raise(
     ensures { x.new ≡ raise_to max_timing r (v - allowance) x.old }
 {
     if x[r] + allowance < v {
-        x[r] = smaller(timing::MAX_TIMING, v - allowance);
+        x[r] = timing::MAX_TIMING.min(v - allowance);
         parents[r] = rule;
         return r;
     }
@@ -79,12 +79,10 @@ pub fn round(
     let step = delay_list::walk_step(down);
     let mut last = x.len();
     let mut k = delay_list::walk_start(count, down);
-    let mut i = 0;
-    while i < count {
+    for i in 0..count {
         let p = delay_list::pair_at(words, k);
         last = relax(x, parents, p, period, k, last);
-        k = std::num::wrapping_add_usize(k, step);
-        i += 1;
+        k = k.wrapping_add(step);
     }
     last
 }

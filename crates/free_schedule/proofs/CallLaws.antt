@@ -11,10 +11,13 @@ use lib.ListN.{length, take, drop}
 use lib.Seq.{length-take-le, take_at}
 use Rattle.timing.specs.Rules.{Each, InRange}
 use Rattle.timing.specs.Limits.{max_period, max_timing}
+use Rattle.std.specs.Prelude.{Ok, Err}
+use Rattle.refusals.specs.Checks.{number_of, refused_at}
+use Rattle.refusals.specs.declared.Refused.{Refused}
+use Rattle.refusals.specs.declared.Refusal.TheVariants.{Room}
 use Rattle.refusals.specs.Reply.{refused, done, reply_of, buffer_after}
 use Rattle.refusals.proofs.ReplyLaws.{one-fails, one_passes, first-refused, then-refused, then-done}
-use Rattle.list_format.specs.Lists.{registers, pairs, list_checks, verdict, IsAccepted, AcceptedList, UsableList}
-use Rattle.list_format.specs.declared.Verdict.TheVariants as Verdict
+use Rattle.list_format.specs.Lists.{registers, pairs, list_checks, verdict, accepted, IsAccepted, AcceptedList, UsableList}
 use Rattle.list_format.proofs.ListLaws.{refused→fault, accepted→none, pairs-in-range, pairs-within, few-registers, still-usable, usable-list}
 use Rattle.free_laws.specs.Free.{common, free_period, free_schedule}
 use Rattle.free_laws.specs.Unbeaten.{UnbeatenFree}
@@ -23,8 +26,7 @@ use Rattle.free_laws.proofs.UnbeatenLaws.{free-unbeaten}
 use Rattle.checker.specs.Check.{Passes}
 use Rattle.checker.proofs.CheckLaws.{admissible-passes, passes-as}
 use Rattle.free_climb.specs.Climbed.{Climbed}
-use Rattle.free_schedule.specs.FreeCall.{freeing, free_reply, FreeAs, Roomy, FreeIn}
-use Rattle.free_schedule.specs.declared.FreeAnswer.TheVariants.{Periods, Refused}
+use Rattle.free_schedule.specs.FreeCall.{freeing, Freed, free_reply, FreeAs, Roomy, FreeIn}
 
 -- ---- the free schedule, brought to a check at the free period
 
@@ -73,42 +75,46 @@ module _ {ws : List ℕ} {n count : ℕ} {was : List ℕ} (r : Roomy ws n count 
   unfolding freeing
   done-is a =
       let room : registers ws ≤ length was = omega (arith, r.room, r.list.registers_are) in
-      then-done (list_checks ws) _ _ (accepted→none ws a).none (one_passes 2 0 (le-ltb _ _ room))
+      then-done (list_checks ws) _ _ (accepted→none ws a).none (one_passes Room 0 (le-ltb _ _ room))
 
   -- the answer, with a place for each register
   module _ (a : IsAccepted ws) {common' free : ℕ} {now : List ℕ} (c : common' ≡ common (pairs ws)) (f : FreeIn ws was now free) where
     front : take (registers ws) now ≡ free_schedule (registers ws) (pairs ws)
     front = ap (take (registers ws)) f.places ∙ take_at (free_schedule (registers ws) (pairs ws)) _ (registers ws) (unbeaten-free r.list).size
 
-    pub settled : FreeAs ws was now (Periods common' free)
-    unfolding reply_of buffer_after free_reply
+    free_in : ℕ → Freed → ℕ
+    free_in other (Ok p) = p.free
+    free_in other (Err r) = other
+
+    pub settled : FreeAs ws was now (Ok (record { common = common'; free = free }))
+    unfolding reply_of buffer_after free_reply free_in
     settled =
         record {
           reply = rw (done-is a, c, f.period);
           stored = rw (done-is a) f.places;
-          unbeaten = λ c₁ f₁ q. let z : f₁ ≡ free = cc in rw (z ∙ f.period, front) (unbeaten-free r.list);
-          passes = λ c₁ f₁ q. let z : f₁ ≡ free = cc in passes-as ws (z ∙ f.period) front (free-passes r.list a);
+          unbeaten = λ p q. let z : p.free ≡ free = sym (ap (free_in 0) q) in rw (z ∙ f.period, front) (unbeaten-free r.list);
+          passes = λ p q. let z : p.free ≡ free = sym (ap (free_in 0) q) in passes-as ws (z ∙ f.period) front (free-passes r.list a);
         }
 
 module _ (ws was : List ℕ) where
   -- a refusal changes nothing
-  refuses : {number place : ℕ} → freeing ws (length was) ≡ refused number place → FreeAs ws was was (Refused number place)
+  refuses : {r : Refused} → freeing ws (length was) ≡ refused (number_of r.refusal) r.place → FreeAs ws was was (Err r)
   unfolding reply_of buffer_after free_reply
   refuses e =
       record {
         reply = rw e;
         stored = rw e;
-        unbeaten = λ common free q. let z : ◌≡◌ {A = ℕ} 0 1 = cc in absurd (omega arith);
-        passes = λ common free q. let z : ◌≡◌ {A = ℕ} 0 1 = cc in absurd (omega arith);
+        unbeaten = λ p q. let z : ◌≡◌ {A = ℕ} 0 1 = cc in absurd (omega arith);
+        passes = λ p q. let z : ◌≡◌ {A = ℕ} 0 1 = cc in absurd (omega arith);
       }
 
   -- the list is refused
-  pub list-stops : {number place : ℕ} → verdict ws ≡ Verdict.Refused number place → FreeAs ws was was (Refused number place)
+  pub list-stops : {r : Refused} → verdict ws ≡ Err r → FreeAs ws was was (Err r)
   unfolding freeing
   list-stops e = refuses (first-refused (list_checks ws) _ _ (refused→fault ws e))
 
   -- too few places
-  pub too_small : {n count : ℕ} → AcceptedList ws n count → length was < n → FreeAs ws was was (Refused 2 0)
+  pub too_small : {n count : ℕ} → AcceptedList ws n count → length was < n → FreeAs ws was was (Err (refused_at Room 0))
   unfolding freeing
   too_small c h =
       let small : length was < registers ws = omega (arith, c.registers_are) in
@@ -118,5 +124,5 @@ module _ (ws was : List ℕ) where
 pub roomy : {ws was : List ℕ} {n count : ℕ} → AcceptedList ws n count → n ≤ length was → IsAccepted ws × Roomy ws n count was
 roomy {ws = ws} l h = (l.accepted, record { list = usable-list ws l; room = h })
 
-pub list_counts : (ws : List ℕ) {n m : ℕ} → verdict ws ≡ Verdict.Accepted n m → AcceptedList ws n m
+pub list_counts : (ws : List ℕ) {n m : ℕ} → verdict ws ≡ accepted n m → AcceptedList ws n m
 list_counts ws e = (accepted→none ws e).list

@@ -2,75 +2,66 @@
 // The contracts cite `specs/FreeCall.antt`, and the definitions of `free_laws`.
 #![tactic(auto)]
 
+ghost use Rattle.std.specs.Prelude.{◌*◌, ◌≤◌, Ok};
+ghost use Rattle.timing.specs.Limits.{max_pairs};
 ghost use Rattle.list_format.specs.Lists.{IsAccepted, AcceptedList};
 ghost use Rattle.free_schedule.specs.FreeCall.{FreeAs, Roomy, FreeIn};
 
-use list_format::Verdict;
-use pair_ends::{ENDS, FEW_ENDS, FEW_PAIRS, NONE, REGISTERS};
+use pair_ends::{ENDS, Ends, FEW_ENDS, FEW_PAIRS, NONE, REGISTERS};
+use refusals::{Refusal, Refused, check};
 
-// The common and the free period, or a refusal with its place.
-#[derive(Clone, Copy)]
-pub enum FreeAnswer {
-    Periods(u32, u32),
-    Refused(u32, usize),
+// The common and the free period.
+#[derive(Clone, Copy, Debug, PartialEq, Eq)]
+pub struct Periods {
+    pub common: u32,
+    pub free: u32,
 }
 
 // The free period of a usable list of n registers, with the ends of its pairs; the free schedule fills the first n places.
-pub fn fill(
-    words: &[u32],
-    n: usize,
-    count: usize,
-    lasts: &[u16; REGISTERS],
-    before: &[u16],
-    answer: &mut [u32],
-) -> u32
+pub fn fill(words: &[u32], n: usize, count: usize, ends: Ends, answer: &mut [u32]) -> u32
     requires { Roomy words.now n count answer.old }
     ensures { FreeIn words.now answer.old answer.new result }
 {
-    free_climb::climb(words, count, &mut answer[..n], lasts, before)
+    free_climb::climb(words, count, &mut answer[..n], ends)
 }
 
-// The answer for an accepted list of n registers; the ends of its pairs fill the places lent.
-fn answer_by(
+// The answer for an accepted list of n registers, with so many places for the ends of its pairs.
+fn answer_within<const PLACES: usize>(
     words: &[u32],
     n: usize,
     count: usize,
-    before: &mut [u16],
     answer: &mut [u32],
-) -> FreeAnswer
-    requires { IsAccepted words.now × Roomy words.now n count answer.old }
-    ensures { FreeAs words.now answer.old answer.new result }
+) -> Periods
+    requires places { PLACES ≤ 2 * max_pairs }
+    requires list { IsAccepted words.now × Roomy words.now n count answer.old }
+    ensures { FreeAs words.now answer.old answer.new (Ok result) }
 {
     let mut lasts = [0u16; REGISTERS];
-    pair_ends::link(words, count, &mut lasts, before);
+    let mut before = [NONE; PLACES];
+    let ends = pair_ends::link(words, count, &mut lasts, &mut before);
     let common = free_climb::common(words, count);
-    let free = fill(words, n, count, &lasts, before, answer);
-    FreeAnswer::Periods(common, free)
+    let free = fill(words, n, count, ends, answer);
+    Periods { common, free }
 }
 
-// The same with places for the ends of few pairs, or for those of the most.
-fn settle(words: &[u32], n: usize, count: usize, answer: &mut [u32]) -> FreeAnswer
+// The same with places for the ends of few pairs, or for those of the most; 2 for an answer buffer of fewer than n places.
+fn settle(words: &[u32], n: usize, count: usize, answer: &mut [u32]) -> Result<Periods, Refused>
     requires { AcceptedList words.now n count }
     ensures { FreeAs words.now answer.old answer.new result }
 {
-    if answer.len() < n {
-        return FreeAnswer::Refused(2, 0);
-    }
+    check(answer.len() < n, Refusal::Room, 0)?;
     if count <= FEW_PAIRS {
-        let mut few = [NONE; FEW_ENDS];
-        return answer_by(words, n, count, &mut few, answer);
+        return Ok(answer_within::<FEW_ENDS>(words, n, count, answer));
     }
-    let mut before = [NONE; ENDS];
-    answer_by(words, n, count, &mut before, answer)
+    Ok(answer_within::<ENDS>(words, n, count, answer))
 }
 
 // Refusals 11 to 20 of the list, then 2: an answer buffer of fewer than n places. Else the common and the free period
 // are returned, and the free schedule fills the first n places; later places keep their contents.
-pub fn free(words: &[u32], answer: &mut [u32]) -> FreeAnswer
+pub fn free(words: &[u32], answer: &mut [u32]) -> Result<Periods, Refused>
     ensures { FreeAs words.now answer.old answer.new result }
 {
-    match delay_list::verdict(words) {
-        Verdict::Refused(number, place) => FreeAnswer::Refused(number, place),
-        Verdict::Accepted(n, m) => settle(words, n as usize, m as usize, answer),
-    }
+    let counts = delay_list::verdict(words)?;
+    let n = counts.registers as usize;
+    settle(words, n, counts.pairs as usize, answer)
 }

@@ -2,6 +2,8 @@
 -- Rounds in any order keep x no later than any times that meet the rules (`Under`), so an admissible x is the least schedule.
 -- As many rounds over all pairs as there are registers come to the least schedule, where there is one (`Rounds`, of free_laws).
 use Prim.Native.Nat.{ℕ, ◌+◌, ◌≤◌}
+use Rattle.std.specs.Prelude.{Option, IfSome}
+use Rattle.std.proofs.lemmas.Option.{IfSome_then}
 use mathlib.Core.Bool.{true, false, false≢true}
 use mathlib.Core.List.{List, ◌++◌, append-nil}
 use mathlib.Core.Path.{◌≡◌, refl, ap, sym, ◌∙◌}
@@ -21,11 +23,11 @@ use Rattle.free_laws.proofs.ConstraintList.{within, admissible→meets, meets→
 use Rattle.timing.proofs.EachLaws.{each_map}
 use Rattle.free_laws.proofs.Sweep.{zeros-below}
 use Rattle.free_laws.proofs.Least.{least-exists}
-use Rattle.free_laws.proofs.Rounds.{Rounds, rounds-start, rounds-turn, rounds-end}
+use Rattle.free_laws.proofs.Rounds.{rounds-start, rounds-turn, rounds-end}
 use Rattle.free_laws.proofs.FreeLaws.{least-capped, common-limit}
 use Rattle.free_laws.proofs.Bound.{bound-common, bound-next}
 use Rattle.free_rounds.specs.Raise.{Raising}
-use Rattle.free_trials.specs.Trial.{Trial, Judged, Tried}
+use Rattle.free_trials.specs.Trial.{Trial, Judged, Tried, Sought, Trying}
 
 -- ---- registers at 0
 
@@ -60,11 +62,6 @@ pub record Under (ws : List ℕ) (t : ℕ) (x : List ℕ) : Type 0 where
 pub under-turn : {ws : List ℕ} {t : ℕ} {x y : List ℕ} → Under ws t x → Risen max_timing (constraints t (pairs ws)) x y → Under ws t y
 under-turn u o = record { size = o.size ∙ u.size; capped = o.capped; low = λ f m. o.low f m (u.low f m) }
 
--- x after k rounds of a trial of t
-pub record Trying (ws : List ℕ) (t : ℕ) (x : List ℕ) (k : ℕ) : Type 0 where
-  pub rounds : Rounds max_timing (registers ws) (constraints t (pairs ws)) x k
-  pub capped : Capped max_timing x
-
 pub trying-under : {ws : List ℕ} {t : ℕ} {x : List ℕ} {k : ℕ} → Trying ws t x k → Under ws t x
 trying-under s = record { size = s.rounds.size; capped = s.capped; low = s.rounds.low }
 
@@ -95,14 +92,17 @@ module _ {ws : List ℕ} {count t : ℕ} {x₀ : List ℕ} (p : Trial ws count t
     pub under-judges : Trial ws count t x
     under-judges = record { list = still-ready; pos = p.pos; bound = p.bound }
 
-    -- told t or more: settled, or a longer period
-    pub under-told : {r : ℕ} → Judged ws t x r → t ≤ r → Tried ws t x r
-    under-told j h =
+    -- settled, or a longer period
+    pub under-told : {r : ℕ} → Judged ws t x r → Tried ws t x r
+    under-told j =
         record {
-          onward = h;
+          onward = j.onward;
           bound = j.bound;
           shows = λ e. record { size = u.size; meets = admissible→meets t (pairs ws) x (j.shows e); below = u.low };
         }
+
+    pub under-any : (o : Option ℕ) → IfSome o (Judged ws t x) → Sought ws t x o
+    under-any o h = IfSome_then o h (λ r j. under-told j)
 
   -- ---- rounds over all pairs
 
@@ -125,7 +125,7 @@ module _ {ws : List ℕ} {count t : ℕ} {x₀ : List ℕ} (p : Trial ws count t
     -- as many rounds as registers
     module _ (all : length x ≤ k) where
       pub trying-passed : admissible t (pairs ws) x ≡ true → Tried ws t x t
-      trying-passed e = under-told (trying-under s) (record { bound = p.bound; shows = λ q. e }) (le_refl t)
+      trying-passed e = under-told (trying-under s) (record { onward = le_refl t; bound = p.bound; shows = λ q. e })
 
       -- not admissible: no schedule at t. Times that met the rules would give a least schedule, which is within the limit of a
       -- timing (`least-capped`); so many rounds would have come to it (`rounds-end`), and it is admissible

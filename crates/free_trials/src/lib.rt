@@ -2,27 +2,41 @@
 // The contracts cite `specs/Trial.antt` and the laws of `free_laws`.
 #![tactic(auto)]
 
-ghost use Rattle.std.specs.Prelude.{◌≡◌, ◌≤◌, length};
+ghost use Rattle.std.specs.Prelude.{◌≡◌, ◌≤◌, length, IfSome, IfNone};
 ghost use Rattle.timing.specs.Limits.{max_period, max_timing};
 ghost use Rattle.buffers.specs.Over.{zeros};
 ghost use Rattle.list_format.specs.Lists.{pairs, UsableList};
 ghost use Rattle.free_laws.specs.Constraint.{constraints, Bound};
 ghost use Rattle.free_laws.specs.Raise.{Risen};
 ghost use Rattle.free_rounds.specs.Raise.{Raising};
-ghost use Rattle.free_trials.specs.Trial.{Trial, Judged, Sought, Tried};
+ghost use Rattle.free_trials.specs.Trial.{Trial, Judged, Tried, Sought, Trying};
 
 use free_rounds::{NO_RULE, PARENTS};
+use pair_ends::Ends;
 
 // All registers at 0.
 fn clear(x: &mut [u32])
     ensures { x.new ≡ zeros (length x.old) }
 {
-    let n = x.len();
-    buffers::clear(x, n);
+    x.fill(0);
 }
 
-// What a round that raised the register `last` last tells: the period if the schedule is admissible, a longer one if
-// this is shown too short, else 0.
+// What raises tell by which a longer period was shown, or none: the period if the schedule is admissible, or the longer one.
+fn told(words: &[u32], count: usize, x: &[u32], period: u32, longer: u32) -> Option<u32>
+    requires { Trial words.now count period x.now × Bound (pairs words.now) longer }
+    ensures { IfSome result (Judged words.now period x.now) }
+{
+    if period < longer {
+        return Some(longer);
+    }
+    if checker::passes(words, count, period, x) {
+        return Some(period);
+    }
+    None
+}
+
+// What a round that raised the register `last` last tells: the period if the schedule is admissible, or a longer one if this is
+// shown too short.
 fn judge(
     words: &[u32],
     count: usize,
@@ -30,33 +44,21 @@ fn judge(
     parents: &[u16; PARENTS],
     period: u32,
     last: usize,
-) -> u32
+) -> Option<u32>
     requires { Trial words.now count period x.now }
-    ensures { Judged words.now period x.now result }
+    ensures { IfSome result (Judged words.now period x.now) }
 {
-    if last < x.len() {
-        let longer = free_cycles::cycle(words, count, x.len(), parents, last as u32);
-        if period < longer {
-            return longer;
-        }
-        return 0;
+    if last >= x.len() {
+        return told(words, count, x, period, NOTHING);
     }
-    if checker::passes(words, count, period, x) {
-        return period;
+    let longer = free_cycles::cycle(words, count, x.len(), parents, last as u32);
+    if longer <= period {
+        return None;
     }
-    0
+    Some(longer)
 }
 
-// No register has a parent.
-pub fn forget(parents: &mut [u16; PARENTS]) {
-    let mut i = 0;
-    while i < PARENTS {
-        parents[i] = NO_RULE;
-        i += 1;
-    }
-}
-
-// A trial by so many rounds over the list at most; 0 if they leave the period undecided.
+// A trial by so many rounds over the list at most; none if they leave the period undecided.
 pub fn plain(
     words: &[u32],
     count: usize,
@@ -64,21 +66,36 @@ pub fn plain(
     parents: &mut [u16; PARENTS],
     most: usize,
     period: u32,
-) -> u32
+) -> Option<u32>
     requires { Trial words.now count period x.old }
-    ensures { Sought words.now period x.new result }
+    ensures sought { Sought words.now period x.new result }
+    ensures trying { IfNone result (Trying words.now period x.new most) }
 {
     clear(x);
-    let mut done = 0;
-    while done < most {
+    for done in 0..most {
         let last = free_rounds::round(words, count, x, parents, period, done % 2 == 1);
         let found = judge(words, count, x, parents, period, last);
-        if period <= found {
+        if found.is_some() {
             return found;
         }
-        done += 1;
     }
-    0
+    None
+}
+
+// A trial by rounds over all pairs, as many as registers if need be: the period, with the least schedule in x, or a longer one.
+pub fn steady(words: &[u32], count: usize, x: &mut [u32], period: u32) -> u32
+    requires { Trial words.now count period x.old }
+    ensures { Tried words.now period x.new result }
+{
+    let mut parents = [NO_RULE; PARENTS];
+    let n = x.len();
+    if let Some(found) = plain(words, count, x, &mut parents, n, period) {
+        return found;
+    }
+    if checker::passes(words, count, period, x) {
+        return period;
+    }
+    period + 1
 }
 
 // Rounds over the list before the registers are taken one by one.
@@ -101,8 +118,7 @@ fn rounds(
     ensures risen { Risen max_timing (constraints period (pairs words.now)) x.old x.new }
     ensures bound { Bound (pairs words.now) result }
 {
-    let mut done = 0;
-    while done < FEW {
+    for done in 0..FEW {
         free_line::remember(x, old);
         let last = free_rounds::round(words, count, x, parents, period, done % 2 == 1);
         if last >= x.len() {
@@ -112,7 +128,6 @@ fn rounds(
         if period < longer {
             return longer;
         }
-        done += 1;
     }
     NOTHING
 }
@@ -145,8 +160,7 @@ pub fn seek(
     parents: &mut [u16; PARENTS],
     kept: bool,
     period: u32,
-    lasts: &[u16; PARENTS],
-    before: &[u16],
+    ends: Ends,
 ) -> u32
     requires { UsableList words.now (length x.old) count × (period ≤ max_period) }
     ensures risen { Risen max_timing (constraints period (pairs words.now)) (zeros (length x.old)) x.new }
@@ -162,75 +176,38 @@ pub fn seek(
     if period < longer {
         return longer;
     }
-    free_line::settle(words, count, x, parents, period, lasts, before, &mut old)
+    free_line::settle(words, count, x, parents, period, ends, &mut old)
 }
 
-// What raises tell by which a longer period was shown, or none: the period if the schedule is admissible, the longer one, else 0.
-fn told(words: &[u32], count: usize, x: &[u32], period: u32, longer: u32) -> u32
-    requires { Trial words.now count period x.now × Bound (pairs words.now) longer }
-    ensures { Judged words.now period x.now result }
-{
-    if period < longer {
-        return longer;
-    }
-    if checker::passes(words, count, period, x) {
-        return period;
-    }
-    0
-}
-
-// A trial that may start from parents kept from another period, a hint; 0 if it leaves the period undecided.
+// A trial that may start from parents kept from another period, a hint; none if it leaves the period undecided.
 pub fn quick(
     words: &[u32],
     count: usize,
     x: &mut [u32],
     parents: &mut [u16; PARENTS],
     kept: bool,
-    lasts: &[u16; PARENTS],
-    before: &[u16],
+    ends: Ends,
     period: u32,
-) -> u32
+) -> Option<u32>
     requires { Trial words.now count period x.old }
     ensures { Sought words.now period x.new result }
 {
-    let longer = seek(words, count, x, parents, kept, period, lasts, before);
+    let longer = seek(words, count, x, parents, kept, period, ends);
     told(words, count, x, period, longer)
 }
 
-// A trial by raises along the parents alone; 0 if it leaves the period undecided.
+// A trial by raises along the parents alone; none if it leaves the period undecided.
 pub fn follow(
     words: &[u32],
     count: usize,
     x: &mut [u32],
     parents: &mut [u16; PARENTS],
     period: u32,
-) -> u32
+) -> Option<u32>
     requires { Trial words.now count period x.old }
     ensures { Sought words.now period x.new result }
 {
     clear(x);
     let longer = free_carry::carry(words, count, x, parents, period);
     told(words, count, x, period, longer)
-}
-
-// A trial by rounds over all pairs, as many as registers if need be: the period, with the least schedule in x, or a longer one.
-pub fn steady(words: &[u32], count: usize, x: &mut [u32], period: u32) -> u32
-    requires { Trial words.now count period x.old }
-    ensures { Tried words.now period x.new result }
-{
-    let mut parents = [NO_RULE; PARENTS];
-    clear(x);
-    let mut done = 0;
-    while done < x.len() {
-        let last = free_rounds::round(words, count, x, &mut parents, period, done % 2 == 1);
-        let found = judge(words, count, x, &parents, period, last);
-        if period <= found {
-            return found;
-        }
-        done += 1;
-    }
-    if checker::passes(words, count, period, x) {
-        return period;
-    }
-    period + 1
 }

@@ -1,7 +1,5 @@
 -- `carry`: no register is raised past times that meet the rules, and below what is told there is no schedule.
--- Invariant `Risen` from the times at the start to those now, and `Bound` of the longest period so far. What falls: the registers left.
-use Prim.Native.Nat.{◌-◌}
-use lib.ListN.{length}
+-- Invariant `Risen` from the times at the start to those now, and `Bound` of the longest period so far.
 use Rattle.timing.specs.Limits.{max_timing}
 use Rattle.list_format.specs.Lists.{pairs}
 use Rattle.free_laws.specs.Constraint.{constraints, Bound}
@@ -11,6 +9,3 @@ use Rattle.free_carry.proofs.carry.Given as goal
 abbrev pub invariant-loop-r : goal.invariant-loop-r
 invariant-loop-r l =
     Risen max_timing (constraints l.period (pairs l.words)) l.initial.x l.x × Bound (pairs l.words) l.most
-
-abbrev pub decreases-loop-r : goal.decreases-loop-r
-decreases-loop-r l = length l.initial.x - l.r

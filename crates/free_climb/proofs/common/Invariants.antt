@@ -1,11 +1,7 @@
 -- `common`: the largest greatest delay, or 1.
--- Invariant `Largest`: that of the first k pairs, with the pairs from k on, gives the common period. What falls: count - k.
-use Prim.Native.Nat.{◌-◌}
+-- Invariant `Largest`: that of the first k pairs, with the pairs from k on, gives the common period.
 use Rattle.free_climb.proofs.ClimbLaws.{Largest}
 use Rattle.free_climb.proofs.common.Given as goal
 
 abbrev pub invariant-loop-k : goal.invariant-loop-k
 invariant-loop-k l = Largest l.words l.most l.k
-
-abbrev pub decreases-loop-k : goal.decreases-loop-k
-decreases-loop-k l = l.count - l.k

@@ -4,4 +4,4 @@ use Rattle.free_climb.proofs.land.Goals as goal
 
 pub returns-then-told-period : goal.returns-then-told-period
 returns-then-told-period c =
-    trial-settled c.requires c.follow-told.auto.x c.follow-told.ensures c.if-told-period.true
+    trial-settled c.requires c.follow.auto.x c.in-Some.ensures c.if-told-period.true

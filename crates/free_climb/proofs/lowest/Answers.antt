@@ -1,9 +1,10 @@
 -- `lowest`: a period of 1 or more, below which there is no schedule.
--- Invariant `Most`: `most` is one, from the first k pairs. What falls: count - k.
-use native.Mathlib.Omega.{arith}
+-- Invariant `Most`: `most` is one, from the first k pairs.
+use Rattle.std.proofs.Common.{rules, ◌≡◌, max, arith}
 use Rattle.free_climb.proofs.ClimbLaws.{most-turn}
 use Rattle.free_climb.proofs.lowest.Goals as goal
 
 pub loop-k-preserved : goal.loop-k-preserved
 loop-k-preserved c =
-    most-turn c.loop-k.invariant (omega arith) c.pair_at-p.ensures c.alone.ensures c.larger-most.ensures
+    let larger : c.max-most.result ≡ max c.loop-k.most c.alone.result = search rules in
+    most-turn c.loop-k.invariant (omega arith) c.pair_at-p.ensures c.alone.ensures larger

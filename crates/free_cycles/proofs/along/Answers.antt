@@ -1,11 +1,11 @@
--- `along`: one step back along setup or hold, its numbers added to the sums, or the end of the trail. One law for each way.
+-- `along`: one step back along setup or hold, its numbers added to the sums, or none. One law for each way.
 use Rattle.free_cycles.proofs.TrailLaws.{back-setup, back-hold}
 use Rattle.free_cycles.proofs.along.Goals as goal
 
-pub returns-then-p-w : goal.returns-then-p-w
-returns-then-p-w c =
-    back-setup c.requires.usable_list c.requires.traced c.requires.steps_lt_n c.pair_at-p.ensures c.if-k-count.true c.if-p-w.true
+pub returns-then-rule-eq0 : goal.returns-then-rule-eq0
+returns-then-rule-eq0 c =
+    back-setup c.requires.usable_list c.requires.traced c.requires.steps_lt_n c.pair_at-p.ensures c.if-k-count.false c.if-p-w.false
 
-pub returns-then-p-w-2 : goal.returns-then-p-w-2
-returns-then-p-w-2 c =
-    back-hold c.requires.usable_list c.requires.traced c.requires.steps_lt_n c.pair_at-p.ensures c.if-k-count.true c.if-p-w-2.true
+pub returns : goal.returns
+returns c =
+    back-hold c.requires.usable_list c.requires.traced c.requires.steps_lt_n c.pair_at-p.ensures c.if-k-count.false c.if-p-w-2.false

@@ -1,5 +1,5 @@
 -- `origin`: n steps back lead to a register of the list.
--- Invariant `Traced`: the trail stands at one, n steps at most. What falls: n - steps, for each step adds one at least.
+-- Invariant `Traced`: the sums are those of rules of the list. What falls: n - steps, for each step adds one.
 use Prim.Native.Nat.{◌-◌}
 use Rattle.free_cycles.specs.Tracing.{Traced}
 use Rattle.free_cycles.proofs.origin.Given as goal

@@ -1,7 +1,6 @@
 -- `round`: each pair relaxed once, up or down the list.
 -- Invariant: `Part`, the pairs at the first i places have what both rules ask of the times at the start; and k is the place of the next turn.
--- What falls: count - i.
-use Rattle.std.proofs.Common.{◌∙◌, arith}
+use Rattle.std.proofs.Common.{arith}
 use Rattle.list_format.proofs.ListLaws.{place-below, place-next}
 use Rattle.free_rounds.proofs.RoundLaws.{part-turn, part_end}
 use Rattle.free_rounds.proofs.round.Goals as goal
@@ -12,8 +11,7 @@ loop-i-preserved c =
     let at = c.loop-i.invariant.1 below in (
       part-turn c.requires c.args.down c.loop-i.invariant.0 (rw at (place-below c.args.count c.args.down below)) at below
           c.pair_at-p.ensures c.relax-last.ensures,
-      λ more. c.wrapping_add_usize-k.ensures.value
-          ∙ rw (at, c.walk_step-step.ensures) (place-next c.args.count c.args.down c.loop-i.i (omega arith) more),
+      λ more. rw (at, c.walk_step-step.ensures) (place-next c.args.count c.args.down c.loop-i.i (omega arith) more),
     )
 
 pub returns : goal.returns

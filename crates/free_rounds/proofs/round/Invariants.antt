@@ -1,7 +1,6 @@
 -- `round`: each pair relaxed once, up or down the list.
 -- Invariant: `Part`, the pairs at the first i places have what both rules ask of the times at the start; and k is the place of the next turn.
--- What falls: count - i.
-use Rattle.std.proofs.Common.{◌≡◌, ◌-◌, ◌<◌}
+use Rattle.std.proofs.Common.{◌≡◌, ◌<◌}
 use Rattle.list_format.specs.Lists.{place_of}
 use Rattle.free_rounds.proofs.RoundLaws.{Part}
 use Rattle.free_rounds.proofs.round.Given as goal
@@ -9,6 +8,3 @@ use Rattle.free_rounds.proofs.round.Given as goal
 abbrev pub invariant-loop-i : goal.invariant-loop-i
 invariant-loop-i l =
     Part l.words l.period l.down l.initial.x l.x l.i × (l.i < l.count → l.k ≡ place_of l.count l.down l.i)
-
-abbrev pub decreases-loop-i : goal.decreases-loop-i
-decreases-loop-i l = l.count - l.i

@@ -1,6 +1,6 @@
--- `follow`: what it tells, if not below the period, is what a trial may tell; 0 leaves the period undecided.
+-- `follow`: what it tells is what a trial may tell.
 use Rattle.free_rounds.proofs.RoundLaws.{risen-then}
-use Rattle.free_trials.proofs.TrialLaws.{zeros-raise, zeros-risen, trial-limit, under-risen, under-told}
+use Rattle.free_trials.proofs.TrialLaws.{zeros-raise, zeros-risen, trial-limit, under-risen, under-any}
 use Rattle.free_trials.proofs.follow.Goals as goal
 
 pub carry-longer-requires : goal.carry-longer-requires
@@ -10,4 +10,4 @@ carry-longer-requires c =
 pub returns : goal.returns
 returns c =
     let risen = risen-then (zeros-risen c.requires.list (trial-limit c.requires) c.clear.ensures) c.carry-longer.ensures.risen in
-    record { tried = under-told c.requires (under-risen c.requires risen) c.told.ensures }
+    under-any c.requires (under-risen c.requires risen) c.told.result c.told.ensures

@@ -1,5 +1,5 @@
 -- `rounds`: no register is raised past times that meet the rules, and below what is told there is no schedule.
--- Invariant `Risen`: so it is from the times at the start to those now. What falls: FEW - done.
+-- Invariant `Risen`: so it is from the times at the start to those now.
 use native.Mathlib.Omega.{arith}
 use Rattle.free_laws.proofs.Bound.{bound-low}
 use Rattle.free_rounds.proofs.RoundLaws.{risen-then, round-risen}

@@ -1,6 +1,5 @@
 -- `rounds`: no register is raised past times that meet the rules, and below what is told there is no schedule.
--- Invariant `Risen`: so it is from the times at the start to those now. What falls: FEW - done.
-use Prim.Native.Nat.{◌-◌}
+-- Invariant `Risen`: so it is from the times at the start to those now.
 use Rattle.timing.specs.Limits.{max_timing}
 use Rattle.list_format.specs.Lists.{pairs}
 use Rattle.free_laws.specs.Constraint.{constraints}
@@ -9,6 +8,3 @@ use Rattle.free_trials.proofs.rounds.Given as goal
 
 abbrev pub invariant-loop-done : goal.invariant-loop-done
 invariant-loop-done l = Risen max_timing (constraints l.period (pairs l.words)) l.initial.x l.x
-
-abbrev pub decreases-loop-done : goal.decreases-loop-done
-decreases-loop-done l = 2 - l.done

@@ -1,0 +1,11 @@
+-- `chase`: no register is raised past times that meet the rules.
+-- Invariant `Risen`: so it is from the times at the start to those now.
+use Rattle.timing.specs.Limits.{max_timing}
+use Rattle.list_format.specs.Lists.{pairs}
+use Rattle.free_laws.specs.Constraint.{constraints}
+use Rattle.free_laws.specs.Raise.{Risen}
+use Rattle.free_line.proofs.Line.chase.Given as goal
+
+abbrev pub invariant-loop : goal.invariant-loop
+invariant-loop l =
+    Risen max_timing (constraints l.period (pairs l.words)) l.initial.x l.x
