@@ -7,24 +7,24 @@ use Rattle.why_text.proofs.WhyTextLaws.{blocked-shown, blocked-fits, why-refused
 use borrow.Author.Rules.{rules}
 use Rattle.why_text.proofs.put_why.Goals as goal
 
-pub put_blocked-size-requires : goal.put_blocked-size-requires
-put_blocked-size-requires c =
+pub put_blocked-requires : goal.put_blocked-requires
+put_blocked-requires c =
     let size : length c.why_not.new.answer ≡ step_places = c.why_not.auto.answer in
-    let is = c.in-Blocked.is in
+    let is = c.in-Ok-Some.is in
     record {
       shown_in = blocked-shown c.why_not.ensures is;
       second_in_bounds = omega (arith, size, blocked-fits c.why_not.ensures is);
       why_places_in_bounds = search rules;
     }
 
-pub returns-in-Refused : goal.returns-in-Refused
-returns-in-Refused c =
-    why-refused c.why_not.ensures c.in-Refused.is c.put_refused_why-size.ensures
+pub returns-in-Err : goal.returns-in-Err
+returns-in-Err c =
+    why-refused c.why_not.ensures c.in-Err.is c.put_refused_why-size.ensures
 
-pub returns-in-Workable : goal.returns-in-Workable
-returns-in-Workable c =
-    why-workable c.why_not.ensures c.in-Workable.is c.put_bytes-size.ensures
+pub returns-in-Ok-None : goal.returns-in-Ok-None
+returns-in-Ok-None c =
+    why-workable c.why_not.ensures c.in-Ok-None.is c.put_bytes.ensures
 
-pub returns-in-Blocked : goal.returns-in-Blocked
-returns-in-Blocked c =
-    why-blocked c.why_not.ensures c.in-Blocked.is c.put_blocked-size.ensures
+pub returns-in-Ok-Some : goal.returns-in-Ok-Some
+returns-in-Ok-Some c =
+    why-blocked c.why_not.ensures c.in-Ok-Some.is c.put_blocked.ensures
