@@ -134,8 +134,14 @@ fn put_chains(
     let b = trace(words, n, m, p.launch as usize, scratch);
     let step = scratch[n + b] as usize;
     let first = put_first(words, step, answer);
-    let path = &scratch[2 * n..2 * n + count];
-    let second = put_second(words, k, b, path, first as usize, answer);
+    let second = put_second(
+        words,
+        k,
+        b,
+        &scratch[2 * n..2 * n + count],
+        first as usize,
+        answer,
+    );
     Blocked {
         register: b as u32,
         first,
