@@ -270,8 +270,10 @@ fn put_why(text: &mut [u8], words: &[u32], period: u32) -> Result<usize, Trouble
             let size = put_refused_why(text, refused);
             Err(Trouble { size })
         }
-        Ok(None) => Ok(put_bytes(text, 0, b"workable\n")),
-        Ok(Some(blocked)) => Ok(put_blocked(text, words, period, blocked, &answer)),
+        Ok(found) => match found {
+            None => Ok(put_bytes(text, 0, b"workable\n")),
+            Some(blocked) => Ok(put_blocked(text, words, period, blocked, &answer)),
+        },
     }
 }
 
