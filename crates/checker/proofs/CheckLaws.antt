@@ -5,29 +5,27 @@ use mathlib.Core.List.{List, [], ◌∷◌}
 use mathlib.Core.Logic.{◌⊎◌, inl, inr}
 use mathlib.Core.Path.{◌≡◌, refl, ap, sym, ◌∙◌}
 use native.Mathlib.Nat.{eq-or-lt_of_le}
-use native.Mathlib.Numerals.{add-one}
 use native.Mathlib.Omega.{arith}
 use borrow.Author.Count.{below_more}
-use borrow.Author.Tests.{not-true, not-false, lt-ltb, le-ltb, ltb-true, ltb-false, eq-eqb, ne_eqb, eqb-true, eqb-false}
+use borrow.Author.Tests.{not-true, not-false, le-ltb, ltb-true, ltb-false, eq-eqb, ne_eqb, eqb-true, eqb-false}
 use lib.Dec.{ltb, eqb}
 use lib.IntN.{pos, nat_abs}
-use lib.ListN.{length, drop, get_or, drop_of_length-le}
-use lib.Seq.{drop-cons}
+use lib.ListN.{length}
 use lib.Signed.{non_neg, le_z}
 use Rattle.timing.specs.Rules.{time, admissible, Each}
 use Rattle.timing.specs.Limits.{max_period, max_timing}
 use Rattle.timing.proofs.MarginLaws.{lt-or-le, at-least-nought, size}
-use Rattle.timing.proofs.RuleLaws.{and-true, test→met, met→test, admissible-sound, admissible-complete}
-use Rattle.search.proofs.SearchLaws.{IsLeast, least-is, least-is-least}
+use Rattle.timing.proofs.RuleLaws.{test→met, met→test, admissible-sound, admissible-complete}
+use Rattle.search.proofs.SearchLaws.{least-is}
 use Rattle.refusals.specs.Checks.{first_fault, no_fault, Fault, number_of}
 use Rattle.refusals.proofs.CheckLaws.{passed, passes, pass-both, stop-first, pass-first}
 use Rattle.refusals.proofs.ReplyLaws.{answered-refused, answered-done}
-use Rattle.refusals.specs.Reply.{numbers, refused, done, reply_of}
+use Rattle.refusals.specs.Reply.{refused, done, reply_of}
 use Rattle.list_format.specs.Lists.{registers, pair_count, pair_at, pairs, list_checks, verdict, accepted, IsAccepted, IsUsable, PairIn, UsableList}
 use Rattle.list_format.proofs.ListLaws.{refused→fault, accepted→none, same, no_difference, each-pair, pair-holds}
 use Rattle.list_format.proofs.ListLaws.{usable-list, still-usable, is-pair}
-use Rattle.checker.specs.Check.{margin_at, low_rule, smallest, met_at, first_broken, broken_rule, answer_for, rule_number, check_values, check_reply, Answer}
-use Rattle.checker.specs.Check.{some_above, timing_checks, check_checks, checking, admits, Passes, reported, margin_place, IsSmallest}
+use Rattle.checker.specs.Check.{margin_at, low_rule, smallest, met_at, first_broken, broken_rule, answer_for, check_values, check_reply}
+use Rattle.checker.specs.Check.{some_above, timing_checks, check_checks, checking, admits, Passes, reported, IsSmallest}
 use Rattle.checker.specs.Check.{named, IsFirstBroken, CheckedAs, Walked}
 use Rattle.checker.specs.declared.Rule.{Rule}
 use Rattle.checker.specs.declared.Rule.TheVariants.{Setup, Hold}
@@ -37,7 +35,7 @@ use Rattle.checker.specs.declared.Checking.{Checking}
 use Rattle.checker.specs.declared.Checking.TheVariants.{NoPairs, Admissible, Broken}
 use Rattle.checker.proofs.BrokenLaws.{first-is, broken-first}
 use Rattle.checker.proofs.MarginLaws.{not_negative, met-low, smallest-met, smallest-below, smallest-is, smallest-least, smallest-first}
-use Rattle.std.specs.Prelude.{Result, Ok, Err}
+use Rattle.std.specs.Prelude.{Ok, Err}
 use Rattle.refusals.specs.declared.Refused.{Refused}
 
 -- ---- pair after pair
@@ -282,11 +280,11 @@ module _ (ws : List ℕ) (t : ℕ) (s : List ℕ) where
     by_call h = refuses (call-decides ∙ h) (answered-refused (check_checks ws t s) _ (call-decides ∙ h))
 
     module _ (h : f ≡ no_fault) where
+      pub call-size : length s ≡ n
+      call-size = let c = passed (timing_checks n t s) (sym call ∙ h) in same _ _ c.1.1.0
+
       pub call-ready : UsableList ws (length s) m
-      call-ready =
-          let c = passed (timing_checks n t s) (sym call ∙ h) in
-          let a = accepted→none ws e in
-          still-usable (same _ _ c.1.1.0) (usable-list ws a.list)
+      call-ready = still-usable call-size (usable-list ws (accepted→none ws e).list)
 
       answer-is : CheckedAs ws t s (Ok (answer_for ws t s))
       unfolding checking reply_of check_reply

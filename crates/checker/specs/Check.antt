@@ -1,6 +1,6 @@
 -- Checking a schedule against a delay list: the margins of its pairs, the smallest of all, which pair breaks a rule first, and what the call
 -- comes to.
-use Rattle.std.specs.Prelude.{ℕ, ◌+◌, ◌*◌, ◌≤◌, ◌<◌, Bool, true, false, not, ◌&&◌, ◌||◌, cond, List, [], ◌∷◌, ◌++◌, ◌≡◌, ltb, eqb, ℤ, nat_abs, length, ◌≤ℤ◌, ◌<ℤ◌}
+use Rattle.std.specs.Prelude.{ℕ, ◌+◌, ◌*◌, ◌≤◌, ◌<◌, Bool, true, false, not, ◌&&◌, cond, List, [], ◌∷◌, ◌++◌, ◌≡◌, ltb, eqb, ℤ, nat_abs, length, ◌≤ℤ◌, ◌<ℤ◌}
 use Rattle.std.specs.Prelude.{Result, Ok, Err}
 use Rattle.std.specs.List.{list_any}
 use Rattle.std.specs.Int.Signed.{non_neg, lt_z}
