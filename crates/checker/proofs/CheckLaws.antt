@@ -280,11 +280,11 @@ module _ (ws : List ℕ) (t : ℕ) (s : List ℕ) where
     by_call h = refuses (call-decides ∙ h) (answered-refused (check_checks ws t s) _ (call-decides ∙ h))
 
     module _ (h : f ≡ no_fault) where
+      pub call-size : length s ≡ n
+      call-size = let c = passed (timing_checks n t s) (sym call ∙ h) in same _ _ c.1.1.0
+
       pub call-ready : UsableList ws (length s) m
-      call-ready =
-          let c = passed (timing_checks n t s) (sym call ∙ h) in
-          let a = accepted→none ws e in
-          still-usable (same _ _ c.1.1.0) (usable-list ws a.list)
+      call-ready = still-usable call-size (usable-list ws (accepted→none ws e).list)
 
       answer-is : CheckedAs ws t s (Ok (answer_for ws t s))
       unfolding checking reply_of check_reply

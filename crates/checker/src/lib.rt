@@ -5,10 +5,11 @@
 ghost use Rattle.std.specs.Prelude.{◌≡◌, ◌<◌, length};
 ghost use Rattle.timing.specs.Rules.{admissible};
 ghost use Rattle.refusals.specs.Checks.{first_fault};
-ghost use Rattle.list_format.specs.Lists.{registers, pairs, PairIn, UsableList};
+ghost use Rattle.list_format.specs.Lists.{pairs};
 ghost use Rattle.checker.specs.Check.{smallest_at, met_at, first_broken, broken_rule, walked_on, Walked, answer_for};
 ghost use Rattle.checker.specs.Check.{some_above, timing_checks, CheckedAs};
 
+use delay_list::DelayList;
 use refusals::{Refusal, Refused};
 
 #[derive(Clone, Copy, Debug, PartialEq, Eq)]
@@ -43,12 +44,12 @@ struct Walk {
 }
 
 // Whether pair k meets both rules.
-fn meets(words: &[u32], k: usize, period: u32, timings: &[u32]) -> bool
-    requires pair_in { PairIn words.now k }
-    requires timings_len { length timings.now ≡ registers words.now }
-    ensures { result ≡ met_at words.now period timings.now k }
+fn meets(list: DelayList, k: usize, period: u32, timings: &[u32]) -> bool
+    requires below { k < list.pairs }
+    requires timings_len { length timings.now ≡ list.registers }
+    ensures { result ≡ met_at list.entry.words.now period timings.now k }
 {
-    let p = delay_list::pair_at(words, k);
+    let p = list.pair(k);
     let a = p.launch as usize;
     let b = p.capture as usize;
     if p.setup_margin(period, timings[a], timings[b]) < 0 {
@@ -58,33 +59,33 @@ fn meets(words: &[u32], k: usize, period: u32, timings: &[u32]) -> bool
 }
 
 // The first pair that does not; their count if each does.
-fn first_broken(words: &[u32], count: usize, period: u32, timings: &[u32]) -> usize
-    requires { UsableList words.now (length timings.now) count }
-    ensures { result ≡ first_broken words.now period timings.now }
+fn first_broken(list: DelayList, period: u32, timings: &[u32]) -> usize
+    requires { length timings.now ≡ list.registers }
+    ensures { result ≡ first_broken list.entry.words.now period timings.now }
 {
-    for k in 0..count {
-        if !meets(words, k, period, timings) {
+    for k in 0..list.pairs {
+        if !meets(list, k, period, timings) {
             return k;
         }
     }
-    count
+    list.pairs
 }
 
 // Whether each pair of a usable list meets both rules.
-pub fn passes(words: &[u32], count: usize, period: u32, timings: &[u32]) -> bool
-    requires { UsableList words.now (length timings.now) count }
-    ensures { result ≡ admissible period (pairs words.now) timings.now }
+pub fn passes(list: DelayList, period: u32, timings: &[u32]) -> bool
+    requires { length timings.now ≡ list.registers }
+    ensures { result ≡ admissible period (pairs list.entry.words.now) timings.now }
 {
-    first_broken(words, count, period, timings) == count
+    first_broken(list, period, timings) == list.pairs
 }
 
 // The smaller margin of pair k, setup's if both are the same.
-fn smaller_margin(words: &[u32], k: usize, period: u32, timings: &[u32]) -> Smallest
-    requires pair_in { PairIn words.now k }
-    requires timings_len { length timings.now ≡ registers words.now }
-    ensures { result ≡ smallest_at words.now period timings.now k }
+fn smaller_margin(list: DelayList, k: usize, period: u32, timings: &[u32]) -> Smallest
+    requires below { k < list.pairs }
+    requires timings_len { length timings.now ≡ list.registers }
+    ensures { result ≡ smallest_at list.entry.words.now period timings.now k }
 {
-    let p = delay_list::pair_at(words, k);
+    let p = list.pair(k);
     let a = timings[p.launch as usize];
     let b = timings[p.capture as usize];
     let setup = p.setup_margin(period, a, b);
@@ -123,28 +124,28 @@ fn walked_on(walk: Walk, x: Smallest) -> Walk
 }
 
 // The walk over all pairs.
-fn walked(words: &[u32], count: usize, period: u32, timings: &[u32]) -> Walk
-    requires usable_list { UsableList words.now (length timings.now) count }
-    requires count_nonzero { 0 < count }
-    ensures { Walked words.now period timings.now count result }
+fn walked(list: DelayList, period: u32, timings: &[u32]) -> Walk
+    requires timings_len { length timings.now ≡ list.registers }
+    requires some { 0 < list.pairs }
+    ensures { Walked list.entry.words.now period timings.now list.entry.pairs result }
 {
     let mut walk = Walk {
-        smallest: smaller_margin(words, 0, period, timings),
+        smallest: smaller_margin(list, 0, period, timings),
         broken: 0,
     };
-    for k in 1..count {
-        walk = walked_on(walk, smaller_margin(words, k, period, timings));
+    for k in 1..list.pairs {
+        walk = walked_on(walk, smaller_margin(list, k, period, timings));
     }
     walk
 }
 
 // The rule that pair k breaks, if it breaks one.
-fn broken_rule(words: &[u32], k: usize, period: u32, timings: &[u32]) -> Rule
-    requires pair_in { PairIn words.now k }
-    requires timings_len { length timings.now ≡ registers words.now }
-    ensures { result ≡ broken_rule words.now period timings.now k }
+fn broken_rule(list: DelayList, k: usize, period: u32, timings: &[u32]) -> Rule
+    requires below { k < list.pairs }
+    requires timings_len { length timings.now ≡ list.registers }
+    ensures { result ≡ broken_rule list.entry.words.now period timings.now k }
 {
-    let p = delay_list::pair_at(words, k);
+    let p = list.pair(k);
     let a = p.launch as usize;
     let b = p.capture as usize;
     if p.setup_margin(period, timings[a], timings[b]) >= 0 {
@@ -154,19 +155,19 @@ fn broken_rule(words: &[u32], k: usize, period: u32, timings: &[u32]) -> Rule
 }
 
 // The answer for a usable list.
-fn checked(words: &[u32], count: usize, period: u32, timings: &[u32]) -> Checking
-    requires { UsableList words.now (length timings.now) count }
-    ensures { result ≡ answer_for words.now period timings.now }
+fn checked(list: DelayList, period: u32, timings: &[u32]) -> Checking
+    requires { length timings.now ≡ list.registers }
+    ensures { result ≡ answer_for list.entry.words.now period timings.now }
 {
-    if count == 0 {
+    if list.pairs == 0 {
         return Checking::NoPairs;
     }
-    let walk = walked(words, count, period, timings);
+    let walk = walked(list, period, timings);
     let smallest = walk.smallest;
     if smallest.margin >= 0 {
         return Checking::Admissible(smallest);
     }
-    let rule = broken_rule(words, walk.broken, period, timings);
+    let rule = broken_rule(list, walk.broken, period, timings);
     Checking::Broken(walk.broken, rule, smallest)
 }
 
@@ -193,7 +194,7 @@ fn call_fault(n: usize, period: u32, timings: &[u32]) -> Result<(), Refused>
 pub fn check(words: &[u32], period: u32, timings: &[u32]) -> Result<Checking, Refused>
     ensures { CheckedAs words.now period timings.now result }
 {
-    let counts = delay_list::verdict(words)?;
-    call_fault(counts.registers as usize, period, timings)?;
-    Ok(checked(words, counts.pairs as usize, period, timings))
+    let list = DelayList::accepted(words)?;
+    call_fault(list.registers, period, timings)?;
+    Ok(checked(list, period, timings))
 }

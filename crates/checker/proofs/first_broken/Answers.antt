@@ -10,5 +10,5 @@ returns-then-not-meets c = looked-end c.loop-k.invariant (λ h. sym c.meets.ensu
 
 pub returns : goal.returns
 returns c =
-    let e : c.loop-k.k ≡ c.args.count = omega arith in
-    rw e at (looked-end c.loop-k.invariant (λ h. absurd (omega (arith, c.requires.pairs_are))))
+    let e : c.loop-k.k ≡ c.args.list.pairs = omega arith in
+    rw e at (looked-end c.loop-k.invariant (λ h. absurd (omega (arith, c.args.list.usable.pairs_are))))

@@ -4,4 +4,4 @@ use Rattle.checker.proofs.CheckLaws.{Looked}
 use Rattle.checker.proofs.first_broken.Given as goal
 
 abbrev pub invariant-loop-k : goal.invariant-loop-k
-invariant-loop-k l = Looked l.words l.period l.timings l.k
+invariant-loop-k l = Looked l.list.words.now l.period l.timings l.k

@@ -6,11 +6,11 @@ use Rattle.checker.proofs.walked.Goals as goal
 
 pub loop-k-init : goal.loop-k-init
 loop-k-init c =
-    (omega arith, walked_start (rw c.requires.usable_list.pairs_are at c.requires.count_nonzero) c.smaller_margin.ensures)
+    (omega arith, walked_start (rw c.args.list.usable.pairs_are at c.requires.some) c.smaller_margin.ensures)
 
 pub loop-k-preserved : goal.loop-k-preserved
 loop-k-preserved c = (
   omega arith,
   rw c.walked_on-walk.ensures (walked-turn c.loop-k.invariant.1 (omega (arith, c.loop-k.invariant.0))
-      (omega (arith, c.loop-k-test.true, c.requires.usable_list.pairs_are)) c.smaller_margin-in-loop-k.ensures),
+      (omega (arith, c.loop-k-test.true, c.args.list.usable.pairs_are)) c.smaller_margin-in-loop-k.ensures),
 )

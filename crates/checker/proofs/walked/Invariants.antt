@@ -5,4 +5,4 @@ use Rattle.checker.specs.Check.{Walked}
 use Rattle.checker.proofs.walked.Given as goal
 
 abbrev pub invariant-loop-k : goal.invariant-loop-k
-invariant-loop-k l = (1 ≤ l.k) × Walked l.words l.period l.timings l.k l.walk
+invariant-loop-k l = (1 ≤ l.k) × Walked l.list.words.now l.period l.timings l.k l.walk
