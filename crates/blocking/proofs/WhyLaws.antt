@@ -37,7 +37,8 @@ use Rattle.forced_late.specs.Forest.{early_early, early_late, late_early, late_l
 use Rattle.forced_late.proofs.ForestLaws.{ends-in}
 use Rattle.blocking.specs.declared.Blocked.{Blocked}
 use Rattle.blocking.specs.Paths.{chains_of, Clashing}
-use Rattle.blocking.specs.Blocking.{why_call_checks, why_checks, why_outcome, why_not, Reason, blocked_by, why_reply, BlockedBy, WhyAs, Ready, ChainsIn, WhyAllowed}
+use Rattle.blocking.specs.Blocking.{why_call_checks, why_checks, why_outcome, why_not, Reason, blocked_by}
+use Rattle.blocking.specs.Blocking.{why_reply, BlockedBy, WhyAs, Ready, ChainsIn, WhyAllowed}
 use Rattle.blocking.proofs.StepLaws.{broken-recorded}
 use Rattle.blocking.proofs.ChainsLaws.{chains-block}
 

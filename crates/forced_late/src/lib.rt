@@ -6,7 +6,8 @@
 ghost use Rattle.std.specs.Prelude.{◌≡◌, ◌*◌, ◌≤◌, ◌<◌, length, is_some};
 ghost use Rattle.timing.specs.Limits.{max_pairs};
 ghost use Rattle.propagate.specs.Store.{Lent};
-ghost use Rattle.forced_late.specs.Forest.{number_of, step_of, row_of, from_of, to_of, Marked, Growing, Grew, Grows, Along, Forces, WayForces, PairForces, AllForce};
+ghost use Rattle.forced_late.specs.Forest.{number_of, step_of, row_of, from_of, to_of, Marked, Growing};
+ghost use Rattle.forced_late.specs.Forest.{Grew, Grows, Along, Forces, WayForces, PairForces, AllForce};
 ghost use Rattle.forced_late.specs.Forest.{SettledAs, Roots, Rooted, Seeding, Blank, ForcedLate, ClashTold, ClashAt};
 
 use delay_list::DelayList;
@@ -136,7 +137,8 @@ fn force(list: DelayList, from: usize, to: usize, step: usize, scratch: &mut [u3
 // One way along pair k. The register across, if it was marked.
 fn follow(list: DelayList, k: usize, way: Way, scratch: &mut [u32]) -> Option<usize>
     requires { Growing list.words.now list.registers list.pairs scratch.old × (k < list.pairs) }
-    ensures { Grows list.entry.words.now list.entry.registers (WayForces list.entry.words.now list.entry.registers k way) scratch.old scratch.new (is_some result) }
+    ensures { Grows list.entry.words.now list.entry.registers
+        (WayForces list.entry.words.now list.entry.registers k way) scratch.old scratch.new (is_some result) }
 {
     let p = list.pair(k);
     let step = way.row().step(k);
