@@ -1,5 +1,5 @@
 -- The two chains of a pair that clashes, as they are stored: what each routine asks for, and what they come to together.
-use mathlib.Core.Path.{◌≡◌, sym, ap, ◌∙◌}
+use mathlib.Core.Path.{◌≡◌, refl, sym, ap, ◌∙◌}
 use mathlib.Core.Bool.{Bool, true, false, cond}
 use mathlib.Core.List.{List, [], ◌∷◌, ◌++◌}
 use Prim.Native.Nat.{ℕ, ◌+◌, ◌*◌, ◌/◌, ◌%◌, ◌≤◌, ◌<◌}
@@ -13,12 +13,11 @@ use Rattle.list_format.specs.Lists.{pair_at, PairIn}
 use Rattle.list_format.proofs.ListLaws.{pair-in, few-registers}
 use Rattle.forced_late.specs.Forest.{early_early, late_early, depth_of, step_to, Root}
 use Rattle.forced_late.proofs.GrowLaws.{depth-few}
-use Rattle.blocking.specs.declared.Reason.TheVariants.{Blocked}
 use Rattle.blocking.specs.Paths.{height_of, root_of, first_chain, chains_of, Late, Traced, chain_in, Clashing}
-use Rattle.blocking.specs.Blocking.{ChainsIn}
+use Rattle.blocking.specs.Blocking.{blocked_by, ChainsIn}
 use Rattle.blocking.proofs.PathLaws.{up_root}
 use Rattle.blocking.proofs.ChainsLaws.{launch-late, root_in, height-one}
-use Rattle.blocking.proofs.StoreLaws.{traced-size, traced-rest, traced-front, traced-up, traced-down}
+use Rattle.blocking.proofs.StoreLaws.{traced-size, traced-rest, traced-front, path, path-length, traced-up, traced-down}
 
 module _ {ws : List ℕ} {n m k : ℕ} {answer S : List ℕ} (x : Clashing ws n m k answer S) where
   late : Late ws n m S (pair_at ws k).launch
@@ -79,30 +78,41 @@ module _ {ws : List ℕ} {n m k : ℕ} {answer S : List ℕ} (x : Clashing ws n 
           ∙ (ap (λ (j : ℕ). length (first_chain ws (get_or S' (n + b) 0)) + j) (length-drop (length (first_chain ws (get_or S' (n + b) 0))) answer)
           ∙ omega (arith, ef, first_short ef, x.room, root_below)))
 
-      pub second-asks : (at : ℕ) → at ≤ 2
-          → PairIn ws k × (count ≤ max_registers) × (2 * n + count ≤ length S') × (at + 2 * count + 2 ≤ length a1)
+      -- the path that the steps make in the scratch
+      abbrev pub steps : List ℕ
+      steps = take count (drop (2 * n) S')
+
+      steps-are : steps ≡ path ws n m (pair_at ws k).launch S late t
+      steps-are = rw ec refl
+
+      pub steps-length : length steps ≡ count
+      steps-length = ap length steps-are ∙ (path-length ws n m (pair_at ws k).launch S late t ∙ sym ec)
+
+      pub steps-inside : 2 * n + count ≤ length S'
+      steps-inside = omega (arith, height-short, x.growing.lent.room, traced-size ws n m (pair_at ws k).launch S late t)
+
+      pub second-asks : (at : ℕ) → at ≤ 2 → PairIn ws k × (length steps ≤ max_registers) × (at + 2 * length steps + 2 ≤ length a1)
       second-asks at h = (
         pair-in ws x.growing.lent.list x.below,
-        omega (arith, height-short, few),
-        omega (arith, height-short, x.growing.lent.room, traced-size ws n m (pair_at ws k).launch S late t),
-        omega (arith, height-short, a1-size, x.room),
+        omega (arith, steps-length, height-short, few),
+        omega (arith, steps-length, height-short, a1-size, x.room),
       )
 
-      module _ {second : ℕ} {a2 : List ℕ} (es : second ≡ length (chain_in ws n k b count S'))
-          (h2 : a2 ≡ over (take first a1 ++ chain_in ws n k b count S') a1) where
+      module _ {second : ℕ} {a2 : List ℕ} (es : second ≡ length (chain_in ws k b steps))
+          (h2 : a2 ≡ over (take first a1 ++ chain_in ws k b steps) a1) where
         same_first : first_chain ws (get_or S' (n + b) 0) ≡ (chains_of ws n S k).first
         same_first = ap (first_chain ws) same_step
 
-        same_second : chain_in ws n k b count S' ≡ (chains_of ws n S k).second
+        same_second : chain_in ws k b steps ≡ (chains_of ws n S k).second
         same_second =
-            rw (ec, traced-down ws n m (pair_at ws k).launch S late t, traced-up ws n m (pair_at ws k).launch S late t, t.root)
+            rw (steps-are, traced-down ws n m (pair_at ws k).launch S late t, traced-up ws n m (pair_at ws k).launch S late t, t.root)
 
-        pub chains-in : ChainsIn ws n k answer a2 S S' (Blocked b first second)
+        pub chains-in : ChainsIn ws n k answer a2 S S' (blocked_by b first second)
         chains-in = record {
           told = rw (ef, es, same_first, same_second, t.root);
           stored =
               h2
-              ∙ (over-more (first_chain ws (get_or S' (n + b) 0)) (chain_in ws n k b count S') answer (sym ef) h1
+              ∙ (over-more (first_chain ws (get_or S' (n + b) 0)) (chain_in ws k b steps) answer (sym ef) h1
               ∙ rw (same_first, same_second));
           size = traced-size ws n m (pair_at ws k).launch S late t;
           rest = traced-rest ws n m (pair_at ws k).launch S late t;

@@ -140,11 +140,21 @@ module _ (ws : List ℕ) (n m r : ℕ) (S : List ℕ) (l : Late ws n m S r) wher
         (rw (length-append (take (2 * n) S) (path_up ws n S r)) (omega (arith, front, size)))
         ∙ ((rw front at past) ∙ (rw e at (run_at (λ (i : ℕ). step_up ws n S r i ∷ []) 1 (λ k. refl) (height_of S r) j 0 h (omega arith)))))
 
-    pub traced-up : path_in n (height_of S r) false S' ≡ path_up ws n S r
-    traced-up = run-same _ _ (height_of S r) (λ i h. ap (λ (y : ℕ). y ∷ []) (traced-at i h))
+    -- as a path of its own
+    abbrev pub path : List ℕ
+    path = take (height_of S r) (drop (2 * n) S')
 
-    pub traced-down : path_in n (height_of S r) true S' ≡ path_down ws n S r
-    traced-down = run-same _ _ (height_of S r) (λ i h. ap (λ (y : ℕ). y ∷ []) (traced-at (height_of S r - 1 - i) (omega arith)))
+    pub path-length : length path ≡ height_of S r
+    path-length = length-take-le (height_of S r) (drop (2 * n) S') (rw (length-drop, traced-size) (omega (arith, height-few, l.growing.lent.room)))
+
+    path-at : (j : ℕ) → j < height_of S r → get_or path j 0 ≡ step_up ws n S r j
+    path-at j h = get_or-take (height_of S r) (drop (2 * n) S') j 0 h ∙ (get_or-drop (2 * n) S' j 0 ∙ traced-at j h)
+
+    pub traced-up : path_in false path ≡ path_up ws n S r
+    traced-up = rw path-length (run-same _ _ (height_of S r) (λ i h. ap (λ (y : ℕ). y ∷ []) (path-at i h)))
+
+    pub traced-down : path_in true path ≡ path_down ws n S r
+    traced-down = rw path-length (run-same _ _ (height_of S r) (λ i h. ap (λ (y : ℕ). y ∷ []) (path-at (height_of S r - 1 - i) (omega arith))))
 
 -- ---- the answer buffer
 

@@ -3,7 +3,6 @@
 -- two chains block the period, so no split works.
 use Prim.Native.Nat.{ℕ, ◌+◌, ◌-◌, ◌*◌, ◌/◌, ◌%◌, ◌≤◌, ◌<◌}
 use mathlib.Core.Bool.{Bool, true, false, not}
-use mathlib.Core.Logic.{inl, inr}
 use mathlib.Core.List.{List, [], ◌++◌, map}
 use mathlib.Core.Path.{◌≡◌, refl, ap, sym, ◌∙◌, subst}
 use native.Mathlib.Omega.{arith}
@@ -14,16 +13,14 @@ use borrow.Author.Tests.{ltb-true, ltb-false, eqb-false}
 use Rattle.buffers.specs.Over.{over}
 use Rattle.buffers.proofs.PadLaws.{zero-at}
 use Rattle.buffers.proofs.FillLaws.{drop-further}
-use Rattle.refusals.specs.Checks.{first_fault}
+use Rattle.std.specs.Prelude.{Some, None, Ok, Err}
+use Rattle.refusals.specs.Checks.{Fault, no_fault, number_of, first_fault}
 use Rattle.refusals.specs.Reply.{refused, reply_of, buffer_after, scratch_after}
-use Rattle.refusals.specs.declared.Fault.{Fault}
-use Rattle.refusals.specs.declared.Fault.TheVariants.{None, At}
+use Rattle.refusals.specs.declared.Refused.{Refused}
 use Rattle.refusals.proofs.CheckLaws.{pass-both, passed}
 use Rattle.refusals.proofs.ReplyLaws.{answered-done, first-refused, then-refused}
 use Rattle.timing.specs.Limits.{per_pair, scratch_places}
-use Rattle.list_format.specs.Lists.{registers, pair_count, pair_at, pairs, list_checks, verdict, UsableList}
-use Rattle.list_format.specs.declared.Verdict.TheVariants.{Accepted}
-use Rattle.list_format.specs.declared.Verdict.TheVariants.{Refused as ListRefused}
+use Rattle.list_format.specs.Lists.{registers, pair_count, pair_at, pairs, list_checks, verdict, accepted, UsableList}
 use Rattle.list_format.proofs.ListLaws.{refused→fault, accepted→none, usable-list, each-pair}
 use Rattle.free_laws.specs.Free.{common}
 use Rattle.split_laws.specs.Split.{meets, works}
@@ -36,12 +33,11 @@ use Rattle.chain_laws.specs.Chains.{Chains, Blocks}
 use Rattle.chain_laws.proofs.BlockLaws.{blocks-two, blocks-rival}
 use Rattle.propagate.specs.Store.{flags_from, Recorded, Lent, Prepared}
 use Rattle.propagate.proofs.StoreLaws.{lent-kept}
-use Rattle.forced_late.specs.Forest.{early_early, early_late, late_early, late_late, depth_of, IsBroken, AllForce, IsSeeded, Blank, ForcedLate, Clashes, ClashAt}
+use Rattle.forced_late.specs.Forest.{early_early, early_late, late_early, late_late, depth_of, IsBroken, AllForce, IsSeeded, Blank, ForcedLate, Clashes}
 use Rattle.forced_late.proofs.ForestLaws.{ends-in}
-use Rattle.blocking.specs.declared.Reason.{Reason}
-use Rattle.blocking.specs.declared.Reason.TheVariants.{Workable, Blocked, Refused}
+use Rattle.blocking.specs.declared.Blocked.{Blocked}
 use Rattle.blocking.specs.Paths.{chains_of, Clashing}
-use Rattle.blocking.specs.Blocking.{why_call_checks, why_checks, why_outcome, why_not, why_reply, BlockedBy, WhyAs, Ready, ChainsIn, WhyAllowed}
+use Rattle.blocking.specs.Blocking.{why_call_checks, why_checks, why_outcome, why_not, Reason, blocked_by, why_reply, BlockedBy, WhyAs, Ready, ChainsIn, WhyAllowed}
 use Rattle.blocking.proofs.StepLaws.{broken-recorded}
 use Rattle.blocking.proofs.ChainsLaws.{chains-block}
 
@@ -103,17 +99,17 @@ module _ {ws : List ℕ} {n m : ℕ} (list : UsableList ws n m) (t s : ℕ) (S :
   late-works : works t s (pairs ws) (late_in n S) ≡ true
   late-works = each-works t s (late_in n S) (pairs ws) (each-pair ws (λ p. keeps t s p (late_in n S) ≡ true) pair-kept)
 
--- ---- the pair that is found, if there is one
-
-pub clash-none : {ws : List ℕ} {n m k : ℕ} {S : List ℕ} → ClashAt ws n m S k → m ≤ k → (j : ℕ) → j < m → Clashes ws n S j → ⊥
-clash-none (inl x) h = absurd (omega (arith, x.0))
-clash-none (inr x) h = x.1
-
-pub clash-there : {ws : List ℕ} {n m k : ℕ} {S : List ℕ} → ClashAt ws n m S k → k < m → (k < m) × Clashes ws n S k
-clash-there (inl x) h = x
-clash-there (inr x) h = absurd (omega (arith, x.0))
-
 -- ---- the ways to end
+
+-- what is told twice is the same
+some-same : {u v : Blocked} → ◌≡◌ {A = Reason} (Ok (Some u)) (Ok (Some v)) → u ≡ v
+some-same q = cc
+
+same-block : {r f s r' f' s' : ℕ} → blocked_by r f s ≡ blocked_by r' f' s' → (r' ≡ r) × ((f' ≡ f) × (s' ≡ s))
+same-block q = (
+  sym (ap (λ (b : Blocked). b.register) q),
+  (sym (ap (λ (b : Blocked). b.first) q), sym (ap (λ (b : Blocked). b.second) q)),
+)
 
 -- chains to name where none are shown
 abbrev no_chains : Chains
@@ -121,8 +117,8 @@ no_chains = record { register = 0; first = []; second = [] }
 
 module _ (ws : List ℕ) (period : ℕ) (answer scratch : List ℕ) where
   -- a refusal changes nothing
-  kept : {number place : ℕ} → why_not ws period (length answer) (length scratch) no_chains ≡ refused number place
-      → WhyAs ws period answer answer scratch scratch (Refused number place)
+  kept : {r : Refused} → why_not ws period (length answer) (length scratch) no_chains ≡ refused (number_of r.refusal) r.place
+      → WhyAs ws period answer answer scratch scratch (Err r)
   unfolding reply_of buffer_after scratch_after why_reply
   kept e =
       record {
@@ -135,24 +131,23 @@ module _ (ws : List ℕ) (period : ℕ) (answer scratch : List ℕ) where
       }
 
   -- the list is refused
-  pub list-refused : {number place : ℕ} → verdict ws ≡ ListRefused number place
-      → WhyAs ws period answer answer scratch scratch (Refused number place)
+  pub list-refused : {r : Refused} → verdict ws ≡ Err r → WhyAs ws period answer answer scratch scratch (Err r)
   unfolding why_not
   list-refused v = kept (first-refused (list_checks ws) _ _ (refused→fault ws v))
 
   -- the list is accepted, and the caller's checks decide
-  module _ {n m : ℕ} (v : verdict ws ≡ Accepted n m) {f : Fault}
+  module _ {n m : ℕ} (v : verdict ws ≡ accepted n m) {f : Fault}
       (e : f ≡ first_fault (why_call_checks n m period (length answer) (length scratch))) where
     fault-is : f ≡ first_fault (why_call_checks (registers ws) (pair_count ws) period (length answer) (length scratch))
     fault-is =
         let a = accepted→none ws v in
         rw (a.list.registers_are, a.list.pairs_are) at e
 
-    pub call-refused : {number place : ℕ} → f ≡ At number place → WhyAs ws period answer answer scratch scratch (Refused number place)
+    pub call-refused : {r : Refused} → f ≡ Err r → WhyAs ws period answer answer scratch scratch (Err r)
     unfolding why_not
     call-refused g = kept (then-refused (list_checks ws) _ _ (accepted→none ws v).none (sym fault-is ∙ g))
 
-    pub call-allowed : f ≡ None → WhyAllowed ws period n m answer scratch
+    pub call-allowed : f ≡ no_fault → WhyAllowed ws period n m answer scratch
     call-allowed g =
         let a = accepted→none ws v in
         let call = why_call_checks (registers ws) (pair_count ws) period (length answer) (length scratch) in
@@ -182,7 +177,7 @@ module _ (ws : List ℕ) (period : ℕ) (answer scratch : List ℕ) where
     module _ {S : List ℕ} (d : Ready ws period n scratch S) where
       -- no pair clashes
       pub workable-shown : {S' : List ℕ} → ((k : ℕ) → k < m → Clashes ws n S k → ⊥)
-          → S' ≡ replicate (scratch_places n m) 0 ++ drop (scratch_places n m) S → WhyAs ws period answer answer scratch S' Workable
+          → S' ≡ replicate (scratch_places n m) 0 ++ drop (scratch_places n m) S → WhyAs ws period answer answer scratch S' (Ok None)
       unfolding why_outcome reply_of buffer_after scratch_after why_reply two_works
       workable-shown {S'} c z =
           let list = a.lent.list in
@@ -215,31 +210,28 @@ module _ (ws : List ℕ) (period : ℕ) (answer scratch : List ℕ) where
             subst (λ (z : ℕ). Blocks z period (common (pairs ws) - period) (pairs ws) (chains_of ws n S k)) a.lent.list.registers_are
             (chains-block ws n m k answer S clashing period (common (pairs ws) - period) d.flags)
 
-        pub blocked-shown : {answer' S' S'' : List ℕ} {r : Reason} → ChainsIn ws n k answer answer' S S' r
-            → S'' ≡ replicate (scratch_places n m) 0 ++ drop (scratch_places n m) S' → WhyAs ws period answer answer' scratch S'' r
+        pub blocked-shown : {answer' S' S'' : List ℕ} {b : Blocked} → ChainsIn ws n k answer answer' S S' b
+            → S'' ≡ replicate (scratch_places n m) 0 ++ drop (scratch_places n m) S' → WhyAs ws period answer answer' scratch S'' (Ok (Some b))
         unfolding why_outcome reply_of buffer_after scratch_after why_reply
-        blocked-shown {answer'} {S'} {S''} {r} x z =
+        blocked-shown {answer'} {S'} {S''} {b} x z =
             let e = outcome false (chains_of ws n S k) (blocks-two (registers ws) period (pairs ws) (chains_of ws n S k) sound) in
             record {
               chains = chains_of ws n S k;
               reply = rw (e, x.told) refl;
               stored = rw e x.stored;
               left = rw e (zeros-left S' S'' (x.rest ∙ d.rest) z);
-              workable = λ q. absurd (not-workable (sym x.told ∙ q));
-              blocked = λ register first second q. named register first second (sym x.told ∙ q);
+              workable = λ q. let y : ◌≡◌ {A = ℕ} 0 1 = cc in absurd (omega arith);
+              blocked = λ register first second q. named register first second (sym x.told ∙ some-same q);
             }
           where
-            not-workable : {u v w : ℕ} → Blocked u v w ≡ Workable → ⊥
-            not-workable q = let y : ◌≡◌ {A = ℕ} 0 1 = cc in absurd (omega arith)
-
             named : (register first second : ℕ)
-                → Blocked (chains_of ws n S k).register (length (chains_of ws n S k).first) (length (chains_of ws n S k).second)
-                ≡ Blocked register first second
+                → blocked_by (chains_of ws n S k).register (length (chains_of ws n S k).first) (length (chains_of ws n S k).second)
+                ≡ blocked_by register first second
                 → BlockedBy ws period (chains_of ws n S k) register first second
             named register first second q = record {
-              register_is = cc;
-              first_is = cc;
-              second_is = cc;
+              register_is = (same-block q).0;
+              first_is = (same-block q).1.0;
+              second_is = (same-block q).1.1;
               sound = sound;
               none = λ u v c y. blocks-rival (registers ws) period (pairs ws) (chains_of ws n S k) sound a.from u v c y;
             }

@@ -68,13 +68,13 @@ pub record Traced (ws : List ℕ) (n r : ℕ) (S S' : List ℕ) (b : ℕ) : Type
   pub root : b ≡ root_of ws n S r
   pub stored : S' ≡ over (take (2 * n) S ++ path_up ws n S r) S
 
--- so many steps from place 2n on, in their order or the last of them first
-abbrev pub path_in : ℕ → ℕ → Bool → List ℕ → List ℕ
-path_in n count down S = run (λ i. get_or S (2 * n + place_of count down i) 0 ∷ []) count
+-- the steps of a path, in their order or the last of them first
+abbrev pub path_in : Bool → List ℕ → List ℕ
+path_in down path = run (λ i. get_or path (place_of (length path) down i) 0 ∷ []) (length path)
 
 -- the second chain along such a path
-abbrev pub chain_in : List ℕ → ℕ → ℕ → ℕ → ℕ → List ℕ → List ℕ
-chain_in ws n k b count S = chain_by ws k b (path_in n count true S) (path_in n count false S)
+abbrev pub chain_in : List ℕ → ℕ → ℕ → List ℕ → List ℕ
+chain_in ws k b path = chain_by ws k b (path_in true path) (path_in false path)
 
 -- pair k clashes, every critical capture is a root, and there is room for the answer
 pub record Clashing (ws : List ℕ) (n m k : ℕ) (answer S : List ℕ) : Type 0 where

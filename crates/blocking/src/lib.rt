@@ -2,7 +2,7 @@
 // The contracts cite `specs/Blocking.antt`; chains are defined in `chain_laws`.
 #![tactic(auto)]
 
-ghost use Rattle.std.specs.Prelude.{◌≡◌, [], ◌∷◌, ◌++◌, ◌+◌, ◌*◌, ◌/◌, ◌%◌, ◌≤◌, ◌<◌, length, take};
+ghost use Rattle.std.specs.Prelude.{◌≡◌, [], ◌∷◌, ◌++◌, ◌+◌, ◌*◌, ◌/◌, ◌%◌, ◌≤◌, ◌<◌, length, take, Ok};
 ghost use Rattle.timing.specs.Limits.{per_pair, max_pairs, max_registers};
 ghost use Rattle.buffers.specs.Over.{over};
 ghost use Rattle.refusals.specs.Checks.{first_fault};
@@ -12,29 +12,29 @@ ghost use Rattle.forced_late.specs.Forest.{early_early, source_of};
 ghost use Rattle.blocking.specs.Paths.{first_chain, path_in, chain_in, Late, Traced, Clashing};
 ghost use Rattle.blocking.specs.Blocking.{why_call_checks, ChainsIn, Ready, WhyAs, WhyAllowed};
 
-use forced_late::{LATE_EARLY, LATE_LATE};
-use list_format::Verdict;
-use refusals::Fault;
+use delay_list::DelayList;
+use forced_late::Row;
+use refusals::{Refusal, Refused, check};
 use timing::PER_PAIR;
 
-// Some split works; or none does, with the register and the lengths of the two chains at it; or a refusal with its place.
-#[derive(Clone, Copy)]
-pub enum Reason {
-    Workable,
-    Blocked(u32, u32, u32),
-    Refused(u32, usize),
+// A register that can be neither early nor late, and the lengths of the two chains at it.
+#[derive(Clone, Copy, Debug, PartialEq, Eq)]
+pub struct Blocked {
+    pub register: u32,
+    pub first: u32,
+    pub second: u32,
 }
 
-// 3, 2 and 1, for a list of n registers and m pairs.
-fn call_fault(n: u32, m: u32, period: u32, room: usize, spare: usize) -> Fault
-    ensures { result ≡ first_fault (why_call_checks n m period room spare) }
+// 3, 2 and 1, for a list.
+#[tactic(auto, unfolding(refusals::specs::Checks::or_check, refusals::specs::Checks::fault_after))]
+fn call_fault(list: DelayList, period: u32, room: usize, spare: usize) -> Result<(), Refused>
+    ensures { result ≡ first_fault (why_call_checks list.entry.registers list.entry.pairs period room spare) }
 {
-    let need = timing::scratch_places(n as usize, m as usize);
-    Fault::None
-        .or(period == 0, 3, 0)
-        .or(period > timing::MAX_PERIOD, 3, 0)
-        .or(room < 4 * (n as usize), 2, 0)
-        .or(spare < need, 1, 0)
+    let need = timing::scratch_places(list.registers, list.pairs);
+    check(period == 0, Refusal::Call, 0)?;
+    check(period > timing::MAX_PERIOD, Refusal::Call, 0)?;
+    check(room < 4 * list.registers, Refusal::Room, 0)?;
+    check(spare < need, Refusal::Scratch, 0)
 }
 
 // The register that a step from a late register to a late one comes from.
@@ -43,25 +43,24 @@ fn source(words: &[u32], step: usize) -> usize
     ensures { result ≡ source_of words.now step }
 {
     let p = delay_list::pair_at(words, step / PER_PAIR);
-    if step % PER_PAIR == LATE_EARLY {
+    if step % PER_PAIR == Row::LateEarly.number() {
         return p.launch as usize;
     }
     p.capture as usize
 }
 
 // The steps from register r up to its root, in the places from 2n on. The root is returned.
-fn trace(words: &[u32], n: usize, m: usize, r: usize, scratch: &mut [u32]) -> usize
-    requires { Late words.now n m scratch.old r }
-    ensures { Traced words.now n r scratch.old scratch.new result }
+fn trace(list: DelayList, r: usize, scratch: &mut [u32]) -> usize
+    requires { Late list.words.now list.registers list.pairs scratch.old r }
+    ensures { Traced list.entry.words.now list.entry.registers r scratch.old scratch.new result }
 {
+    let n = list.registers;
     let height = (scratch[r] as usize) - 1;
     let mut at = r;
-    let mut i = 0;
-    while i < height {
+    for i in 0..height {
         let step = scratch[n + at];
         scratch[2 * n + i] = step;
-        at = source(words, step as usize);
-        i += 1;
+        at = source(list.words, step as usize);
     }
     at
 }
@@ -85,118 +84,105 @@ fn put_first(words: &[u32], step: usize, answer: &mut [u32]) -> u32
     if p.launch == p.capture {
         return 1;
     }
-    put_step(answer, 1, step + LATE_EARLY);
+    put_step(answer, 1, step + Row::LateEarly.number());
     2
 }
 
-// So many steps from place 2n of the scratch on, in their order or the last of them first.
-fn put_path(n: usize, count: usize, down: bool, scratch: &[u32], at: usize, answer: &mut [u32])
-    requires { (2 * n + count ≤ length scratch.now) × (at + count ≤ length answer.old) }
-    ensures { answer.new ≡ over (take at answer.old ++ path_in n count down scratch.now) answer.old }
+// The steps of a path, in their order or the last of them first.
+fn put_path(path: &[u32], down: bool, at: usize, answer: &mut [u32])
+    requires { at + length path.now ≤ length answer.old }
+    ensures { answer.new ≡ over (take at answer.old ++ path_in down path.now) answer.old }
 {
-    let mut i = 0;
-    while i < count {
-        answer[at + i] = scratch[2 * n + delay_list::place(count, i, down)];
-        i += 1;
+    for i in 0..path.len() {
+        answer[at + i] = path[delay_list::place(path.len(), i, down)];
     }
 }
 
-// The chain of root b from late to early, from place `at` on: along a path of so many steps down to the launch of pair k, and back
-// by that pair. Its length is returned.
-fn put_second(
-    words: &[u32],
-    n: usize,
-    k: usize,
-    b: usize,
-    count: usize,
-    scratch: &[u32],
-    at: usize,
-    answer: &mut [u32],
-) -> u32
-    requires { PairIn words.now k × (count ≤ max_registers) × (2 * n + count ≤ length scratch.now)
-        × (at + 2 * count + 2 ≤ length answer.old) }
-    ensures size { result ≡ length (chain_in words.now n k b count scratch.now) }
-    ensures stored { answer.new ≡ over (take at answer.old ++ chain_in words.now n k b count scratch.now)
-        answer.old }
+// The chain of root b from late to early, from place `at` on: along a path down to the launch of pair k, and back by that pair. Its
+// length is returned.
+fn put_second(words: &[u32], k: usize, b: usize, path: &[u32], at: usize, answer: &mut [u32]) -> u32
+    requires { PairIn words.now k × (length path.now ≤ max_registers) × (at + 2 * length path.now + 2 ≤ length answer.old) }
+    ensures size { result ≡ length (chain_in words.now k b path.now) }
+    ensures stored { answer.new ≡ over (take at answer.old ++ chain_in words.now k b path.now) answer.old }
 {
     let p = delay_list::pair_at(words, k);
-    put_path(n, count, true, scratch, at, answer);
-    put_step(answer, at + count, PER_PAIR * k + LATE_LATE);
+    let count = path.len();
+    put_path(path, true, at, answer);
+    put_step(answer, at + count, Row::LateLate.step(k));
     if p.capture as usize == b {
         return (count + 1) as u32;
     }
-    put_step(answer, at + count + 1, PER_PAIR * k + LATE_EARLY);
-    put_path(n, count, false, scratch, at + count + 2, answer);
+    put_step(answer, at + count + 1, Row::LateEarly.step(k));
+    put_path(path, false, at + count + 2, answer);
     (2 * count + 2) as u32
 }
 
 // The two chains that pair k gives, whose launch is late and has to be early.
-fn put_chains(
-    words: &[u32],
-    n: usize,
-    m: usize,
-    k: usize,
-    answer: &mut [u32],
-    scratch: &mut [u32],
-) -> Reason
-    requires { Clashing words.now n m k answer.old scratch.old }
-    ensures { ChainsIn words.now n k answer.old answer.new scratch.old scratch.new result }
+fn put_chains(list: DelayList, k: usize, answer: &mut [u32], scratch: &mut [u32]) -> Blocked
+    requires { Clashing list.words.now list.registers list.pairs k answer.old scratch.old }
+    ensures { ChainsIn list.entry.words.now list.entry.registers k answer.old answer.new scratch.old scratch.new result }
 {
-    let p = delay_list::pair_at(words, k);
+    let n = list.registers;
+    let p = list.pair(k);
     let count = (scratch[p.launch as usize] as usize) - 1;
-    let b = trace(words, n, m, p.launch as usize, scratch);
+    let b = trace(list, p.launch as usize, scratch);
     let step = scratch[n + b] as usize;
-    let first = put_first(words, step, answer);
-    let second = put_second(words, n, k, b, count, scratch, first as usize, answer);
-    Reason::Blocked(b as u32, first, second)
+    let first = put_first(list.words, step, answer);
+    let second = put_second(
+        list.words,
+        k,
+        b,
+        &scratch[2 * n..2 * n + count],
+        first as usize,
+        answer,
+    );
+    Blocked {
+        register: b as u32,
+        first,
+        second,
+    }
 }
 
 // The broken choices at the offset common less period, or 0, and the registers that they force late.
-fn prepare(words: &[u32], period: u32, n: usize, m: usize, scratch: &mut [u32])
-    requires { Lent words.now n m scratch.old }
-    ensures { Ready words.now period n scratch.old scratch.new }
+fn prepare(list: DelayList, period: u32, scratch: &mut [u32])
+    requires { Lent list.words.now list.registers list.pairs scratch.old }
+    ensures { Ready list.entry.words.now period list.entry.registers scratch.old scratch.new }
 {
-    let common = free_climb::common(words, m);
-    let offset = timing::less(common, period);
-    propagate::prepare(words, period, offset, n, m, scratch);
-    forced_late::force_late(words, n, m, scratch);
+    let common = free_climb::common(list.words, list.pairs);
+    let offset = common.saturating_sub(period);
+    let n = list.registers;
+    propagate::prepare(list.words, period, offset, n, list.pairs, scratch);
+    forced_late::force_late(list, scratch);
 }
 
-// What blocks the period of an accepted list with n registers and m pairs; the scratch is left zero.
-fn show(
-    words: &[u32],
-    period: u32,
-    n: usize,
-    m: usize,
-    answer: &mut [u32],
-    scratch: &mut [u32],
-) -> Reason
-    requires { WhyAllowed words.now period n m answer.old scratch.old }
-    ensures { WhyAs words.now period answer.old answer.new scratch.old scratch.new result }
+// What blocks the period of an accepted list; the scratch is left zero.
+fn show(list: DelayList, period: u32, answer: &mut [u32], scratch: &mut [u32]) -> Option<Blocked>
+    requires { WhyAllowed list.words.now period list.registers list.pairs answer.old scratch.old }
+    ensures { WhyAs list.entry.words.now period answer.old answer.new scratch.old scratch.new (Ok result) }
 {
-    let end = timing::scratch_places(n, m);
-    prepare(words, period, n, m, scratch);
-    let k = forced_late::clash(words, n, m, scratch);
-    if k >= m {
+    let end = timing::scratch_places(list.registers, list.pairs);
+    prepare(list, period, scratch);
+    let Some(k) = forced_late::clash(list, scratch) else {
         buffers::clear(scratch, end);
-        return Reason::Workable;
-    }
-    let reason = put_chains(words, n, m, k, answer, scratch);
+        return None;
+    };
+    let blocked = put_chains(list, k, answer, scratch);
     buffers::clear(scratch, end);
-    reason
+    Some(blocked)
 }
 
-// Whether some split works at the period with any offset: the answer buffer is then kept. If none does, a register that can be neither
+// Whether some split works at the period with any offset: nothing is returned, and the answer buffer kept. If none does, a register that can be neither
 // early nor late: the steps of the chain that leads it from early to late fill the first places of the answer buffer, those of the chain
 // from late back to early the next. Either way 6n + 4m places of scratch are left zero; a refusal changes nothing.
-pub fn why_not(words: &[u32], period: u32, answer: &mut [u32], scratch: &mut [u32]) -> Reason
+pub fn why_not(
+    words: &[u32],
+    period: u32,
+    answer: &mut [u32],
+    scratch: &mut [u32],
+) -> Result<Option<Blocked>, Refused>
     ensures { WhyAs words.now period answer.old answer.new scratch.old scratch.new result }
 {
-    match delay_list::verdict(words) {
-        Verdict::Refused(number, place) => Reason::Refused(number, place),
-        Verdict::Accepted(n, m) => match call_fault(n, m, period, answer.len(), scratch.len()) {
-            Fault::At(number, place) => Reason::Refused(number, place),
-            Fault::None => show(words, period, n as usize, m as usize, answer, scratch),
-        },
-    }
+    let list = DelayList::accepted(words)?;
+    call_fault(list, period, answer.len(), scratch.len())?;
+    Ok(show(list, period, answer, scratch))
 }

@@ -5,41 +5,38 @@ use mathlib.Core.List.{List, [], ◌∷◌}
 use mathlib.Core.Logic.{◌⊎◌, inl, inr}
 use mathlib.Core.Path.{◌≡◌, refl, ap, sym, ◌∙◌}
 use native.Mathlib.Nat.{eq-or-lt_of_le}
-use native.Mathlib.Numerals.{add-one}
 use native.Mathlib.Omega.{arith}
 use borrow.Author.Count.{below_more}
-use borrow.Author.Tests.{not-true, not-false, lt-ltb, le-ltb, ltb-true, ltb-false, eq-eqb, ne_eqb, eqb-true, eqb-false}
+use borrow.Author.Tests.{not-true, not-false, le-ltb, ltb-true, ltb-false, eq-eqb, ne_eqb, eqb-true, eqb-false}
 use lib.Dec.{ltb, eqb}
 use lib.IntN.{pos, nat_abs}
-use lib.ListN.{length, drop, get_or, drop_of_length-le}
-use lib.Seq.{drop-cons}
+use lib.ListN.{length}
 use lib.Signed.{non_neg, le_z}
 use Rattle.timing.specs.Rules.{time, admissible, Each}
 use Rattle.timing.specs.Limits.{max_period, max_timing}
 use Rattle.timing.proofs.MarginLaws.{lt-or-le, at-least-nought, size}
-use Rattle.timing.proofs.RuleLaws.{and-true, test→met, met→test, admissible-sound, admissible-complete}
-use Rattle.search.proofs.SearchLaws.{IsLeast, least-is, least-is-least}
-use Rattle.refusals.specs.Checks.{first_fault}
+use Rattle.timing.proofs.RuleLaws.{test→met, met→test, admissible-sound, admissible-complete}
+use Rattle.search.proofs.SearchLaws.{least-is}
+use Rattle.refusals.specs.Checks.{first_fault, no_fault, Fault, number_of}
 use Rattle.refusals.proofs.CheckLaws.{passed, passes, pass-both, stop-first, pass-first}
 use Rattle.refusals.proofs.ReplyLaws.{answered-refused, answered-done}
-use Rattle.refusals.specs.Reply.{numbers, refused, done, reply_of}
-use Rattle.refusals.specs.declared.Fault.{Fault}
-use Rattle.refusals.specs.declared.Fault.TheVariants.{None, At}
-use Rattle.list_format.specs.Lists.{registers, pair_count, pair_at, pairs, list_checks, verdict, IsAccepted, IsUsable, PairIn, UsableList}
-use Rattle.list_format.specs.declared.Verdict.TheVariants as Verdict
-use Rattle.list_format.specs.declared.Verdict.TheVariants.{Accepted}
+use Rattle.refusals.specs.Reply.{refused, done, reply_of}
+use Rattle.list_format.specs.Lists.{registers, pair_count, pair_at, pairs, list_checks, verdict, accepted, IsAccepted, IsUsable, PairIn, UsableList}
 use Rattle.list_format.proofs.ListLaws.{refused→fault, accepted→none, same, no_difference, each-pair, pair-holds}
 use Rattle.list_format.proofs.ListLaws.{usable-list, still-usable, is-pair}
-use Rattle.checker.specs.Check.{margin_at, low_rule, smallest, met_at, first_broken, broken_rule, answer_for, rule_number, check_values, check_reply}
-use Rattle.checker.specs.Check.{some_above, timing_checks, check_checks, checking, admits, Passes, reported, margin_place, IsSmallest}
+use Rattle.checker.specs.Check.{margin_at, low_rule, smallest, met_at, first_broken, broken_rule, answer_for, check_values, check_reply}
+use Rattle.checker.specs.Check.{some_above, timing_checks, check_checks, checking, admits, Passes, reported, IsSmallest}
 use Rattle.checker.specs.Check.{named, IsFirstBroken, CheckedAs, Walked}
 use Rattle.checker.specs.declared.Rule.{Rule}
 use Rattle.checker.specs.declared.Rule.TheVariants.{Setup, Hold}
 use Rattle.checker.specs.declared.Smallest.{Smallest}
 use Rattle.checker.specs.declared.Walk.{Walk}
 use Rattle.checker.specs.declared.Checking.{Checking}
-use Rattle.checker.specs.declared.Checking.TheVariants.{NoPairs, Admissible, Broken, Refused}
+use Rattle.checker.specs.declared.Checking.TheVariants.{NoPairs, Admissible, Broken}
+use Rattle.checker.proofs.BrokenLaws.{first-is, broken-first}
 use Rattle.checker.proofs.MarginLaws.{not_negative, met-low, smallest-met, smallest-below, smallest-is, smallest-least, smallest-first}
+use Rattle.std.specs.Prelude.{Ok, Err}
+use Rattle.refusals.specs.declared.Refused.{Refused}
 
 -- ---- pair after pair
 
@@ -63,22 +60,18 @@ module _ {ws : List ℕ} {t : ℕ} {s : List ℕ} where
 
 -- ---- the schedule is admissible exactly if no pair breaks a rule
 
--- `first_broken` is the least place whose pair fails the test of both rules (`first-is`). Where it is the count of pairs, each pair
+-- `first_broken` is the least place whose pair fails the test of both rules (`first-is`, of BrokenLaws). Where it is the count of pairs, each pair
 -- passes the test, and so meets both rules. Where it is less, that pair fails, as no pair of an admissible schedule does.
 module _ (ws : List ℕ) (t : ℕ) (s : List ℕ) where
-  first-is : IsLeast (λ k. not (met_at ws t s k)) 0 (pair_count ws) (first_broken ws t s)
-  unfolding first_broken
-  first-is = least-is-least (λ k. not (met_at ws t s k)) 0 (pair_count ws) zero-le
-
   pub none-admissible : pair_count ws ≤ first_broken ws t s → admissible t (pairs ws) s ≡ true
   unfolding met_at margin_at
   none-admissible h =
-      admissible-complete t s (pairs ws) (each-pair ws _ (λ k l. test→met (pair_at ws k) t _ _ (not-false _ (first-is.before k zero-le (omega arith)))))
+      admissible-complete t s (pairs ws) (each-pair ws _ (λ k l. test→met (pair_at ws k) t _ _ (not-false _ ((first-is ws t s).before k zero-le (omega arith)))))
 
   admissible-none : admissible t (pairs ws) s ≡ true → first_broken ws t s < pair_count ws → ⊥
   unfolding met_at margin_at
   admissible-none a h =
-      false≢true (sym (not-true _ (first-is.passes h)) ∙ met→test (pair_at ws _) t _ _ (pair-holds ws _ (admissible-sound t s (pairs ws) a) _ h))
+      false≢true (sym (not-true _ ((first-is ws t s).passes h)) ∙ met→test (pair_at ws _) t _ _ (pair-holds ws _ (admissible-sound t s (pairs ws) a) _ h))
 
   pub some-broken : first_broken ws t s < pair_count ws → admissible t (pairs ws) s ≡ false
   some-broken h = go (admissible t (pairs ws) s) refl
@@ -89,38 +82,12 @@ module _ (ws : List ℕ) (t : ℕ) (s : List ℕ) where
 
   -- as a test
   pub none-test : eqb (first_broken ws t s) (pair_count ws) ≡ admissible t (pairs ws) s
-  none-test = go (eq-or-lt_of_le first-is.upto)
+  none-test = go (eq-or-lt_of_le (first-is ws t s).upto)
     where
       go : (first_broken ws t s ≡ pair_count ws) ⊎ (first_broken ws t s < pair_count ws)
           → eqb (first_broken ws t s) (pair_count ws) ≡ admissible t (pairs ws) s
       go (inl e) = eq-eqb _ _ e ∙ sym (none-admissible (omega arith))
       go (inr l) = ne_eqb (first_broken ws t s) (pair_count ws) (λ e. omega arith) ∙ sym (some-broken l)
-
-  -- ---- the pair and the rule that are named
-
-  met-before : (j : ℕ) → j < first_broken ws t s → (rule : Rule) → non_neg (margin_at ws t s j rule) ≡ true
-  unfolding met_at
-  met-before j h Setup = (and-true _ (non_neg (margin_at ws t s j Hold)) (not-false _ (first-is.before j zero-le h))).0
-  met-before j h Hold = (and-true (non_neg (margin_at ws t s j Setup)) _ (not-false _ (first-is.before j zero-le h))).1
-
-  -- where setup of that pair is met too
-  met-before-hold : non_neg (margin_at ws t s (first_broken ws t s) Setup) ≡ true → (k : ℕ) (rule : Rule)
-      → margin_place k rule < margin_place (first_broken ws t s) Hold → non_neg (margin_at ws t s k rule) ≡ true
-  unfolding rule_number
-  met-before-hold e k Hold l = met-before k (omega arith) Hold
-  met-before-hold e k Setup l = go (eq-or-lt_of_le (omega arith))
-    where
-      go : (k ≡ first_broken ws t s) ⊎ (k < first_broken ws t s) → non_neg (margin_at ws t s k Setup) ≡ true
-      go (inl q) = rw q e
-      go (inr h) = met-before k h Setup
-
-  broken-first : first_broken ws t s < pair_count ws → IsFirstBroken ws t s (first_broken ws t s, broken_rule ws t s (first_broken ws t s))
-  unfolding broken_rule met_at rule_number
-  broken-first h = go (non_neg (margin_at ws t s (first_broken ws t s) Setup)) refl
-    where
-      go : (x : Bool) → non_neg (margin_at ws t s (first_broken ws t s) Setup) ≡ x → IsFirstBroken ws t s (first_broken ws t s, cond x Hold Setup)
-      go false e = record { below = h; broken = e; first = λ k rule l. met-before k (omega arith) rule }
-      go true e = record { below = h; broken = rw e at (not-true (met_at ws t s (first_broken ws t s)) (first-is.passes h)); first = met-before-hold e }
 
   -- ---- and exactly if the smallest margin is not negative
 
@@ -131,7 +98,7 @@ module _ (ws : List ℕ) (t : ℕ) (s : List ℕ) where
         go : (first_broken ws t s < pair_count ws) ⊎ (pair_count ws ≤ first_broken ws t s) → pair_count ws ≤ first_broken ws t s
         go (inr h) = h
         go (inl h) =
-            absurd (false≢true (sym (not-true _ (first-is.passes h)) ∙ met-low ws t s _
+            absurd (false≢true (sym (not-true _ ((first-is ws t s).passes h)) ∙ met-low ws t s _
             ∙ not_negative _ _ (smallest-least ws t s some _ (low_rule ws t s _) h) n))
 
     one_below : non_neg (smallest ws t s).margin ≡ false → first_broken ws t s < pair_count ws
@@ -141,7 +108,7 @@ module _ (ws : List ℕ) (t : ℕ) (s : List ℕ) where
         go (inl h) = h
         go (inr h) =
             let below : (smallest ws t s).pair < first_broken ws t s = omega (arith, smallest-below ws t s some) in
-            absurd (false≢true (sym n ∙ smallest-met ws t s some ∙ not-false _ (first-is.before _ zero-le below)))
+            absurd (false≢true (sym n ∙ smallest-met ws t s some ∙ not-false _ ((first-is ws t s).before _ zero-le below)))
 
     pub sign-is : admissible t (pairs ws) s ≡ non_neg (smallest ws t s).margin
     sign-is = go (non_neg (smallest ws t s).margin) refl
@@ -158,7 +125,6 @@ or-none false b e = (refl, e)
 
 -- no timing is above the limit
 time-within : (s : List ℕ) → some_above s ≡ false → (r : ℕ) → time s r ≤ max_timing
-unfolding some_above
 time-within [] e r = zero-le
 time-within (x ∷ s) e zero = ltb-false _ _ (or-none (ltb max_timing x) (some_above s) e).0
 time-within (x ∷ s) e (suc r) = time-within s (or-none (ltb max_timing x) (some_above s) e).1 r
@@ -189,15 +155,10 @@ module _ (ws : List ℕ) (t : ℕ) (s : List ℕ) where
       go false e true q = let l = ltb-true (first_broken ws t s) (pair_count ws) q in broken (omega arith) l
       go false e false q = met (some_pairs e) (ltb-false (first_broken ws t s) (pair_count ws) q)
 
-  -- its numbers
-  answer-told : check_reply (answer_for ws t s) ≡ numbers (check_values (answer_for ws t s))
-  unfolding check_reply
-  answer-told = answer-by (λ r. check_reply r ≡ numbers (check_values r)) (λ e. refl) (λ h l. refl) (λ h l. refl)
-
-  answer-admits : admits (answer_for ws t s) ≡ admissible t (pairs ws) s
+  answer-admits : admits (Ok (answer_for ws t s)) ≡ admissible t (pairs ws) s
   unfolding admits
   answer-admits =
-      answer-by (λ r. admits r ≡ admissible t (pairs ws) s) (λ e. sym (none-admissible ws t s (omega arith)))
+      answer-by (λ r. admits (Ok r) ≡ admissible t (pairs ws) s) (λ e. sym (none-admissible ws t s (omega arith)))
       (λ h l. sym (none-admissible ws t s l)) (λ h l. sym (some-broken ws t s l))
 
   answer-none : answer_for ws t s ≡ NoPairs → pair_count ws ≡ 0
@@ -212,9 +173,9 @@ module _ (ws : List ℕ) (t : ℕ) (s : List ℕ) where
       answer-by (λ r. Broken k rule x ≡ r → k < pair_count ws) (λ e q. let z : ◌≡◌ {A = ℕ} 0 1 = cc in absurd (omega arith))
       (λ h l q. let z : ◌≡◌ {A = ℕ} 0 1 = cc in absurd (omega arith)) (λ h l q. let same : k ≡ first_broken ws t s = cc in omega arith)
 
-  answer-broken : Each (IsFirstBroken ws t s) (named (answer_for ws t s))
+  answer-broken : Each (IsFirstBroken ws t s) (named (Ok (answer_for ws t s)))
   unfolding named
-  answer-broken = answer-by (λ r. Each (IsFirstBroken ws t s) (named r)) (λ e. tt) (λ h l. tt) (λ h l. (broken-first ws t s l, tt))
+  answer-broken = answer-by (λ r. Each (IsFirstBroken ws t s) (named (Ok r))) (λ e. tt) (λ h l. tt) (λ h l. (broken-first ws t s l, tt))
 
   module _ (usable : IsUsable ws) (few : t ≤ max_period) (limit : (r : ℕ) → time s r ≤ max_timing) where
     margin-within : (k : ℕ) → k < pair_count ws → (rule : Rule) → nat_abs (margin_at ws t s k rule) ≤ max_timing + max_period
@@ -241,9 +202,9 @@ module _ (ws : List ℕ) (t : ℕ) (s : List ℕ) where
           within = rw (smallest-is ws t s h) (margin-within (smallest ws t s).pair (smallest-below ws t s h) (smallest ws t s).rule);
         }
 
-    answer-margin : Each (IsSmallest ws t s) (reported (answer_for ws t s))
+    answer-margin : Each (IsSmallest ws t s) (reported (Ok (answer_for ws t s)))
     unfolding reported
-    answer-margin = answer-by (λ r. Each (IsSmallest ws t s) (reported r)) (λ e. tt) (λ h l. (smallest-all h, tt)) (λ h l. (smallest-all h, tt))
+    answer-margin = answer-by (λ r. Each (IsSmallest ws t s) (reported (Ok r))) (λ e. tt) (λ h l. (smallest-all h, tt)) (λ h l. (smallest-all h, tt))
 
 -- from the walk over all pairs
 module _ (t : ℕ) (s : List ℕ) {ws : List ℕ} {n count : ℕ} (list : UsableList ws n count) where
@@ -287,8 +248,8 @@ module _ (ws : List ℕ) (t : ℕ) (s : List ℕ) where
   -- not admit the schedule, and its checks find something: it promises no more. Where the pairs decide, the answer is that of the definition.
 
   -- the call is refused
-  refuses : {number place : ℕ} → first_fault (check_checks ws t s) ≡ At number place → checking ws t s ≡ refused number place
-      → CheckedAs ws t s (Refused number place)
+  refuses : {r : Refused} → first_fault (check_checks ws t s) ≡ Err r → checking ws t s ≡ refused (number_of r.refusal) r.place
+      → CheckedAs ws t s (Err r)
   unfolding reply_of check_reply admits reported named
   refuses f e =
       record {
@@ -302,78 +263,52 @@ module _ (ws : List ℕ) (t : ℕ) (s : List ℕ) where
         some = λ n q. let z : ◌≡◌ {A = ℕ} 0 1 = cc in absurd (omega arith);
       }
 
-  pub by-list : {number place : ℕ} → verdict ws ≡ Verdict.Refused number place → CheckedAs ws t s (Refused number place)
+  pub by-list : {r : Refused} → verdict ws ≡ Err r → CheckedAs ws t s (Err r)
   unfolding checking
   by-list e =
       let f = stop-first (list_checks ws) (timing_checks (registers ws) t s) (refused→fault ws e) in
       refuses f (answered-refused (check_checks ws t s) _ f)
 
-  module _ {n m : ℕ} (e : verdict ws ≡ Accepted n m) {f : Fault} (call : f ≡ first_fault (timing_checks n t s)) where
+  module _ {n m : ℕ} (e : verdict ws ≡ accepted n m) {f : Fault} (call : f ≡ first_fault (timing_checks n t s)) where
     call-decides : first_fault (check_checks ws t s) ≡ f
     call-decides =
         let a = accepted→none ws e in
         pass-first (list_checks ws) (timing_checks (registers ws) t s) a.none ∙ rw (← a.list.registers_are) (sym call)
 
-    pub by_call : {number place : ℕ} → f ≡ At number place → CheckedAs ws t s (Refused number place)
+    pub by_call : {r : Refused} → f ≡ Err r → CheckedAs ws t s (Err r)
     unfolding checking
     by_call h = refuses (call-decides ∙ h) (answered-refused (check_checks ws t s) _ (call-decides ∙ h))
 
-    module _ (h : f ≡ None) where
-      pub call-ready : UsableList ws (length s) m
-      call-ready =
-          let c = passed (timing_checks n t s) (sym call ∙ h) in
-          let a = accepted→none ws e in
-          still-usable (same _ _ c.1.1.0) (usable-list ws a.list)
+    module _ (h : f ≡ no_fault) where
+      pub call-size : length s ≡ n
+      call-size = let c = passed (timing_checks n t s) (sym call ∙ h) in same _ _ c.1.1.0
 
-      answer-is : CheckedAs ws t s (answer_for ws t s)
-      unfolding checking reply_of
+      pub call-ready : UsableList ws (length s) m
+      call-ready = still-usable call-size (usable-list ws (accepted→none ws e).list)
+
+      answer-is : CheckedAs ws t s (Ok (answer_for ws t s))
+      unfolding checking reply_of check_reply
       answer-is =
           let c = passed (timing_checks n t s) (sym call ∙ h) in
           let e : checking ws t s ≡ done (check_values (answer_for ws t s)) [] = answered-done (check_checks ws t s) _ (call-decides ∙ h) in
           record {
-            reply = rw e (answer-told ws t s);
+            reply = rw e;
             answer = λ n. refl;
             sound = λ a. sym (answer-admits ws t s) ∙ a;
             complete = λ a n. answer-admits ws t s ∙ a;
             margin = answer-margin ws t s call-ready.usable (ltb-false _ _ c.1.0) (time-within s c.1.1.1.0);
             broken = answer-broken ws t s;
-            none = answer-none ws t s;
-            some = λ n q. answer-some ws t s q;
+            none = λ q. answer-none ws t s cc;
+            some = λ n q. ap Ok (answer-some ws t s q);
           }
 
-      pub by-pairs : {r : Checking} → r ≡ answer_for ws t s → CheckedAs ws t s r
+      pub by-pairs : {r : Checking} → r ≡ answer_for ws t s → CheckedAs ws t s (Ok r)
       by-pairs is = rw is answer-is
-
--- ---- the timings
-
--- whether a timing is above the limit depends on those from place i on
-pub record Unseen (s : List ℕ) (i : ℕ) : Type 0 where
-  pub bound : i ≤ length s
-  pub same : some_above (drop i s) ≡ some_above s
-
-pub unseen-start : {s : List ℕ} → Unseen s 0
-unseen-start = record { bound = zero-le; same = refl }
-
-module _ {s : List ℕ} {i : ℕ} (u : Unseen s i) (h : i < length s) where
-  unseen-next : ltb max_timing (get_or s i 0) || some_above (drop (suc i) s) ≡ some_above s
-  unfolding some_above
-  unseen-next = rw (drop-cons s i 0) at u.same
-
-  pub unseen-turn : get_or s i 0 ≤ max_timing → Unseen s (i + 1)
-  unseen-turn l = record { bound = omega arith; same = rw add-one (rw (le-ltb max_timing (get_or s i 0) l) at unseen-next) }
-
-  pub unseen-stop : max_timing < get_or s i 0 → true ≡ some_above s
-  unseen-stop l = rw (lt-ltb max_timing (get_or s i 0) l) at unseen-next
-
-pub unseen-end : {s : List ℕ} {i : ℕ} → Unseen s i → length s ≤ i → false ≡ some_above s
-unfolding some_above
-unseen-end {s} {i} u h = rw (drop_of_length-le s {i = i} h) at u.same
 
 -- ---- a schedule handed out passes
 
 -- no timing is above the limit
 none_above : (s : List ℕ) → ((r : ℕ) → time s r ≤ max_timing) → some_above s ≡ false
-unfolding some_above
 none_above [] h = refl
 none_above (x ∷ s) h = rw (le-ltb max_timing x (h 0)) (none_above s (λ r. h (suc r)))
 
@@ -386,7 +321,7 @@ admissible-passes ws t s a from upto size limit meets =
       admitted = answer-admits ws t s ∙ meets;
     }
   where
-    call : first_fault (timing_checks (registers ws) t s) ≡ None
+    call : first_fault (timing_checks (registers ws) t s) ≡ no_fault
     call = passes (timing_checks (registers ws) t s)
         (ne_eqb t 0 (λ e. omega arith), (le-ltb _ _ upto, (no_difference _ _ size, (none_above s limit, tt))))
 

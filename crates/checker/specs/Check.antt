@@ -1,22 +1,25 @@
 -- Checking a schedule against a delay list: the margins of its pairs, the smallest of all, which pair breaks a rule first, and what the call
 -- comes to.
-use Rattle.std.specs.Prelude.{ℕ, ◌+◌, ◌*◌, ◌≤◌, ◌<◌, Bool, true, false, not, ◌&&◌, ◌||◌, cond, List, [], ◌∷◌, ◌++◌, ◌≡◌, ltb, eqb, ℤ, nat_abs, length, ◌≤ℤ◌, ◌<ℤ◌}
+use Rattle.std.specs.Prelude.{ℕ, ◌+◌, ◌*◌, ◌≤◌, ◌<◌, Bool, true, false, not, ◌&&◌, cond, List, [], ◌∷◌, ◌++◌, ◌≡◌, ltb, eqb, ℤ, nat_abs, length, ◌≤ℤ◌, ◌<ℤ◌}
+use Rattle.std.specs.Prelude.{Result, Ok, Err}
+use Rattle.std.specs.List.{list_any}
 use Rattle.std.specs.Int.Signed.{non_neg, lt_z}
 use Rattle.timing.specs.Rules.{setup_margin, hold_margin, time, admissible, Each}
 use Rattle.timing.specs.Limits.{max_period, max_timing}
 use Rattle.words.specs.Signed.{signed_word}
 use Rattle.search.specs.Search.{least}
 use Rattle.search.specs.Lowest.{lowest}
-use Rattle.refusals.specs.Checks.{Check, first_fault}
-use Rattle.refusals.specs.Reply.{Reply, refusal, numbers, Outcome, done, reply_of, answered}
-use Rattle.refusals.specs.declared.Fault.TheVariants.{None}
+use Rattle.refusals.specs.Checks.{Check, first_fault, no_fault}
+use Rattle.refusals.specs.declared.Refused.{Refused}
+use Rattle.refusals.specs.declared.Refusal.TheVariants.{Call}
+use Rattle.refusals.specs.Reply.{Reply, refusal_of, numbers, Outcome, done, reply_of, answered}
 use Rattle.list_format.specs.Lists.{registers, pair_count, pair_at, pairs, differ, list_checks}
 use Rattle.checker.specs.declared.Rule.{Rule}
 use Rattle.checker.specs.declared.Rule.TheVariants.{Setup, Hold}
 use Rattle.checker.specs.declared.Smallest.{Smallest}
 use Rattle.checker.specs.declared.Walk.{Walk}
 use Rattle.checker.specs.declared.Checking.{Checking}
-use Rattle.checker.specs.declared.Checking.TheVariants.{NoPairs, Admissible, Broken, Refused}
+use Rattle.checker.specs.declared.Checking.TheVariants.{NoPairs, Admissible, Broken}
 
 -- ---- the margins, for the list ws, the period t and the schedule s
 
@@ -71,33 +74,33 @@ rule_number Hold = 1
 unfoldable pub smallest_numbers : Smallest → List ℕ
 smallest_numbers x = signed_word x.margin ∷ x.pair ∷ rule_number x.rule ∷ []
 
--- the values of each case of the answer; number and place of a refusal are no values
+-- the values of each case of the answer
 unfoldable pub check_values : Checking → List ℕ
 check_values NoPairs = []
 check_values (Admissible x) = smallest_numbers x
 check_values (Broken k rule x) = smallest_numbers x ++ (k ∷ rule_number rule ∷ [])
-check_values (Refused number place) = []
 
-unfoldable pub check_reply : Checking → Reply
-check_reply NoPairs = numbers (check_values NoPairs)
-check_reply (Admissible x) = numbers (check_values (Admissible x))
-check_reply (Broken k rule x) = numbers (check_values (Broken k rule x))
-check_reply (Refused number place) = refusal number place
+-- the answer, or a refusal with its place
+abbrev pub Answer : Type 0
+Answer = Result Checking Refused
+
+unfoldable pub check_reply : Answer → Reply
+check_reply (Ok r) = numbers (check_values r)
+check_reply (Err r) = refusal_of r
 
 -- ---- the call
 
 -- some timing is above the limit
-unfoldable pub some_above : List ℕ → Bool
-some_above [] = false
-some_above (x ∷ s) = ltb max_timing x || some_above s
+abbrev pub some_above : List ℕ → Bool
+some_above s = list_any (λ x. ltb max_timing x) s
 
 -- 3: the period or a timing out of range, or not a timing for each of n registers
 abbrev pub timing_checks : ℕ → ℕ → List ℕ → List Check
 timing_checks n t s =
-    (eqb t 0, 3, 0)
-    ∷ (ltb max_period t, 3, 0)
-    ∷ (differ (length s) n, 3, 0)
-    ∷ (some_above s, 3, 0)
+    (eqb t 0, Call, 0)
+    ∷ (ltb max_period t, Call, 0)
+    ∷ (differ (length s) n, Call, 0)
+    ∷ (some_above s, Call, 0)
     ∷ []
 
 -- 11 to 20, then 3
@@ -109,25 +112,25 @@ unfoldable pub checking : List ℕ → ℕ → List ℕ → Outcome
 checking ws t s = answered (check_checks ws t s) (done (check_values (answer_for ws t s)) [])
 
 -- the answer is that the schedule is admissible
-unfoldable pub admits : Checking → Bool
-admits NoPairs = true
-admits (Admissible x) = true
-admits (Broken k rule x) = false
-admits (Refused number place) = false
+unfoldable pub admits : Answer → Bool
+admits (Ok NoPairs) = true
+admits (Ok (Admissible x)) = true
+admits (Ok (Broken k rule x)) = false
+admits (Err r) = false
 
 -- the schedule s, brought to a check at the period t, is not refused and comes out admissible
 pub record Passes (ws : List ℕ) (t : ℕ) (s : List ℕ) : Type 0 where
-  pub accepted : first_fault (check_checks ws t s) ≡ None
-  pub admitted : admits (answer_for ws t s) ≡ true
+  pub accepted : first_fault (check_checks ws t s) ≡ no_fault
+  pub admitted : admits (Ok (answer_for ws t s)) ≡ true
 
 -- ---- the answer as propositions
 
 -- the smallest margin that an answer reports, whether the schedule passes or fails
-unfoldable pub reported : Checking → List Smallest
-reported NoPairs = []
-reported (Admissible x) = x ∷ []
-reported (Broken k rule x) = x ∷ []
-reported (Refused number place) = []
+unfoldable pub reported : Answer → List Smallest
+reported (Ok NoPairs) = []
+reported (Ok (Admissible x)) = x ∷ []
+reported (Ok (Broken k rule x)) = x ∷ []
+reported (Err r) = []
 
 -- the place of a margin among all: pair by pair, setup before hold
 abbrev pub margin_place : ℕ → Rule → ℕ
@@ -144,11 +147,11 @@ pub record IsSmallest (ws : List ℕ) (t : ℕ) (s : List ℕ) (x : Smallest) : 
   pub within : nat_abs x.margin ≤ max_timing + max_period
 
 -- the pair and the rule that an answer names as broken
-unfoldable pub named : Checking → List (ℕ × Rule)
-named NoPairs = []
-named (Admissible x) = []
-named (Broken k rule x) = (k, rule) ∷ []
-named (Refused number place) = []
+unfoldable pub named : Answer → List (ℕ × Rule)
+named (Ok NoPairs) = []
+named (Ok (Admissible x)) = []
+named (Ok (Broken k rule x)) = (k, rule) ∷ []
+named (Err r) = []
 
 -- the rule of the pair is broken, and no rule before it
 pub record IsFirstBroken (ws : List ℕ) (t : ℕ) (s : List ℕ) (b : ℕ × Rule) : Type 0 where
@@ -157,18 +160,18 @@ pub record IsFirstBroken (ws : List ℕ) (t : ℕ) (s : List ℕ) (b : ℕ × Ru
   pub first : (k : ℕ) (rule : Rule) → margin_place k rule < margin_place b.0 b.1 → non_neg (margin_at ws t s k rule) ≡ true
 
 -- the schedule s was checked against the words ws at the period t
-pub record CheckedAs (ws : List ℕ) (t : ℕ) (s : List ℕ) (r : Checking) : Type 0 where
+pub record CheckedAs (ws : List ℕ) (t : ℕ) (s : List ℕ) (r : Answer) : Type 0 where
   pub reply : check_reply r ≡ reply_of (checking ws t s)
-  pub answer : first_fault (check_checks ws t s) ≡ None → r ≡ answer_for ws t s
+  pub answer : first_fault (check_checks ws t s) ≡ no_fault → r ≡ Ok (answer_for ws t s)
   -- only an admissible schedule passes
   pub sound : admits r ≡ true → admissible t (pairs ws) s ≡ true
   -- every admissible schedule passes, unless the call is refused
-  pub complete : admissible t (pairs ws) s ≡ true → first_fault (check_checks ws t s) ≡ None → admits r ≡ true
+  pub complete : admissible t (pairs ws) s ≡ true → first_fault (check_checks ws t s) ≡ no_fault → admits r ≡ true
   pub margin : Each (IsSmallest ws t s) (reported r)
   pub broken : Each (IsFirstBroken ws t s) (named r)
   -- no margin is reported exactly of a list without pairs, unless the call is refused
-  pub none : r ≡ NoPairs → pair_count ws ≡ 0
-  pub some : first_fault (check_checks ws t s) ≡ None → pair_count ws ≡ 0 → r ≡ NoPairs
+  pub none : r ≡ Ok NoPairs → pair_count ws ≡ 0
+  pub some : first_fault (check_checks ws t s) ≡ no_fault → pair_count ws ≡ 0 → r ≡ Ok NoPairs
 
 -- ---- the walk over the pairs
 

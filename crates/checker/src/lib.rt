@@ -5,38 +5,38 @@
 ghost use Rattle.std.specs.Prelude.{◌≡◌, ◌<◌, length};
 ghost use Rattle.timing.specs.Rules.{admissible};
 ghost use Rattle.refusals.specs.Checks.{first_fault};
-ghost use Rattle.list_format.specs.Lists.{registers, pairs, PairIn, UsableList};
+ghost use Rattle.list_format.specs.Lists.{pairs};
 ghost use Rattle.checker.specs.Check.{smallest_at, met_at, first_broken, broken_rule, walked_on, Walked, answer_for};
 ghost use Rattle.checker.specs.Check.{some_above, timing_checks, CheckedAs};
 
-use list_format::Verdict;
-use refusals::Fault;
+use delay_list::DelayList;
+use refusals::{Refusal, Refused};
 
-#[derive(Clone, Copy)]
+#[derive(Clone, Copy, Debug, PartialEq, Eq)]
 pub enum Rule {
     Setup,
     Hold,
 }
 
 // A margin, with the pair and the rule that have it.
-#[derive(Clone, Copy)]
+#[derive(Clone, Copy, Debug, PartialEq, Eq)]
 pub struct Smallest {
     pub margin: i64,
     pub pair: usize,
     pub rule: Rule,
 }
 
-// What checking comes to: a list without pairs, which every schedule meets; each pair meets both rules; the first pair that does not and the
-// rule that it breaks, setup named before hold; or a refusal with its place. Pairs come with the smallest margin of all.
-#[derive(Clone, Copy)]
+// What checking comes to: a list without pairs, which every schedule meets; each pair meets both rules; or the first pair that does not and
+// the rule that it breaks, setup named before hold. Pairs come with the smallest margin of all.
+#[derive(Clone, Copy, Debug, PartialEq, Eq)]
 pub enum Checking {
     NoPairs,
     Admissible(Smallest),
     Broken(usize, Rule, Smallest),
-    Refused(u32, usize),
 }
 
-// What a walk has come to: the smallest margin, and where that is negative the first pair that breaks a rule.
+// What a walk has come to: the smallest margin, and where that is negative the first pair that breaks a rule. Its sign tells
+// whether there is one.
 #[derive(Clone, Copy)]
 struct Walk {
     smallest: Smallest,
@@ -44,12 +44,12 @@ struct Walk {
 }
 
 // Whether pair k meets both rules.
-fn meets(words: &[u32], k: usize, period: u32, timings: &[u32]) -> bool
-    requires pair_in { PairIn words.now k }
-    requires timings_len { length timings.now ≡ registers words.now }
-    ensures { result ≡ met_at words.now period timings.now k }
+fn meets(list: DelayList, k: usize, period: u32, timings: &[u32]) -> bool
+    requires below { k < list.pairs }
+    requires timings_len { length timings.now ≡ list.registers }
+    ensures { result ≡ met_at list.entry.words.now period timings.now k }
 {
-    let p = delay_list::pair_at(words, k);
+    let p = list.pair(k);
     let a = p.launch as usize;
     let b = p.capture as usize;
     if p.setup_margin(period, timings[a], timings[b]) < 0 {
@@ -59,32 +59,33 @@ fn meets(words: &[u32], k: usize, period: u32, timings: &[u32]) -> bool
 }
 
 // The first pair that does not; their count if each does.
-fn first_broken(words: &[u32], count: usize, period: u32, timings: &[u32]) -> usize
-    requires { UsableList words.now (length timings.now) count }
-    ensures { result ≡ first_broken words.now period timings.now }
+fn first_broken(list: DelayList, period: u32, timings: &[u32]) -> usize
+    requires { length timings.now ≡ list.registers }
+    ensures { result ≡ first_broken list.entry.words.now period timings.now }
 {
-    let mut k = 0;
-    while k < count && meets(words, k, period, timings) {
-        k += 1;
+    for k in 0..list.pairs {
+        if !meets(list, k, period, timings) {
+            return k;
+        }
     }
-    k
+    list.pairs
 }
 
 // Whether each pair of a usable list meets both rules.
-pub fn passes(words: &[u32], count: usize, period: u32, timings: &[u32]) -> bool
-    requires { UsableList words.now (length timings.now) count }
-    ensures { result ≡ admissible period (pairs words.now) timings.now }
+pub fn passes(list: DelayList, period: u32, timings: &[u32]) -> bool
+    requires { length timings.now ≡ list.registers }
+    ensures { result ≡ admissible period (pairs list.entry.words.now) timings.now }
 {
-    first_broken(words, count, period, timings) == count
+    first_broken(list, period, timings) == list.pairs
 }
 
 // The smaller margin of pair k, setup's if both are the same.
-fn smaller_margin(words: &[u32], k: usize, period: u32, timings: &[u32]) -> Smallest
-    requires pair_in { PairIn words.now k }
-    requires timings_len { length timings.now ≡ registers words.now }
-    ensures { result ≡ smallest_at words.now period timings.now k }
+fn smaller_margin(list: DelayList, k: usize, period: u32, timings: &[u32]) -> Smallest
+    requires below { k < list.pairs }
+    requires timings_len { length timings.now ≡ list.registers }
+    ensures { result ≡ smallest_at list.entry.words.now period timings.now k }
 {
-    let p = delay_list::pair_at(words, k);
+    let p = list.pair(k);
     let a = timings[p.launch as usize];
     let b = timings[p.capture as usize];
     let setup = p.setup_margin(period, a, b);
@@ -110,40 +111,41 @@ fn walked_on(walk: Walk, x: Smallest) -> Walk
     if x.margin >= walk.smallest.margin {
         return walk;
     }
-    let mut next = walk;
-    next.smallest = x;
     if walk.smallest.margin < 0 {
-        return next;
+        return Walk {
+            smallest: x,
+            ..walk
+        };
     }
-    next.broken = x.pair;
-    next
+    Walk {
+        smallest: x,
+        broken: x.pair,
+    }
 }
 
 // The walk over all pairs.
-fn walked(words: &[u32], count: usize, period: u32, timings: &[u32]) -> Walk
-    requires usable_list { UsableList words.now (length timings.now) count }
-    requires count_nonzero { 0 < count }
-    ensures { Walked words.now period timings.now count result }
+fn walked(list: DelayList, period: u32, timings: &[u32]) -> Walk
+    requires timings_len { length timings.now ≡ list.registers }
+    requires some { 0 < list.pairs }
+    ensures { Walked list.entry.words.now period timings.now list.entry.pairs result }
 {
     let mut walk = Walk {
-        smallest: smaller_margin(words, 0, period, timings),
+        smallest: smaller_margin(list, 0, period, timings),
         broken: 0,
     };
-    let mut k = 1;
-    while k < count {
-        walk = walked_on(walk, smaller_margin(words, k, period, timings));
-        k += 1;
+    for k in 1..list.pairs {
+        walk = walked_on(walk, smaller_margin(list, k, period, timings));
     }
     walk
 }
 
 // The rule that pair k breaks, if it breaks one.
-fn broken_rule(words: &[u32], k: usize, period: u32, timings: &[u32]) -> Rule
-    requires pair_in { PairIn words.now k }
-    requires timings_len { length timings.now ≡ registers words.now }
-    ensures { result ≡ broken_rule words.now period timings.now k }
+fn broken_rule(list: DelayList, k: usize, period: u32, timings: &[u32]) -> Rule
+    requires below { k < list.pairs }
+    requires timings_len { length timings.now ≡ list.registers }
+    ensures { result ≡ broken_rule list.entry.words.now period timings.now k }
 {
-    let p = delay_list::pair_at(words, k);
+    let p = list.pair(k);
     let a = p.launch as usize;
     let b = p.capture as usize;
     if p.setup_margin(period, timings[a], timings[b]) >= 0 {
@@ -153,19 +155,19 @@ fn broken_rule(words: &[u32], k: usize, period: u32, timings: &[u32]) -> Rule
 }
 
 // The answer for a usable list.
-fn checked(words: &[u32], count: usize, period: u32, timings: &[u32]) -> Checking
-    requires { UsableList words.now (length timings.now) count }
-    ensures { result ≡ answer_for words.now period timings.now }
+fn checked(list: DelayList, period: u32, timings: &[u32]) -> Checking
+    requires { length timings.now ≡ list.registers }
+    ensures { result ≡ answer_for list.entry.words.now period timings.now }
 {
-    if count == 0 {
+    if list.pairs == 0 {
         return Checking::NoPairs;
     }
-    let walk = walked(words, count, period, timings);
+    let walk = walked(list, period, timings);
     let smallest = walk.smallest;
     if smallest.margin >= 0 {
         return Checking::Admissible(smallest);
     }
-    let rule = broken_rule(words, walk.broken, period, timings);
+    let rule = broken_rule(list, walk.broken, period, timings);
     Checking::Broken(walk.broken, rule, smallest)
 }
 
@@ -173,37 +175,26 @@ fn checked(words: &[u32], count: usize, period: u32, timings: &[u32]) -> Checkin
 fn above_limit(timings: &[u32]) -> bool
     ensures { result ≡ some_above timings.now }
 {
-    let mut i = 0;
-    while i < timings.len() {
-        if timings[i] > timing::MAX_TIMING {
-            return true;
-        }
-        i += 1;
-    }
-    false
+    timings.iter().any(|&x| x > timing::MAX_TIMING)
 }
 
 // 3: what is wrong with the call, for a list of n registers.
-fn call_fault(n: usize, period: u32, timings: &[u32]) -> Fault
+#[tactic(auto, unfolding(refusals::specs::Checks::or_check, refusals::specs::Checks::fault_after))]
+fn call_fault(n: usize, period: u32, timings: &[u32]) -> Result<(), Refused>
     ensures { result ≡ first_fault (timing_checks n period timings.now) }
 {
-    Fault::None
-        .or(period == 0, 3, 0)
-        .or(period > timing::MAX_PERIOD, 3, 0)
-        .or(timings.len() != n, 3, 0)
-        .or(above_limit(timings), 3, 0)
+    refusals::check(period == 0, Refusal::Call, 0)?;
+    refusals::check(period > timing::MAX_PERIOD, Refusal::Call, 0)?;
+    refusals::check(timings.len() != n, Refusal::Call, 0)?;
+    refusals::check(above_limit(timings), Refusal::Call, 0)
 }
 
 // Checks a schedule at a period. Refusals 11 to 20 of the list, then 3: the period or a timing out of range, or not a
 // timing for each register.
-pub fn check(words: &[u32], period: u32, timings: &[u32]) -> Checking
+pub fn check(words: &[u32], period: u32, timings: &[u32]) -> Result<Checking, Refused>
     ensures { CheckedAs words.now period timings.now result }
 {
-    match delay_list::verdict(words) {
-        Verdict::Refused(number, place) => Checking::Refused(number, place),
-        Verdict::Accepted(n, m) => match call_fault(n as usize, period, timings) {
-            Fault::At(number, place) => Checking::Refused(number, place),
-            Fault::None => checked(words, m as usize, period, timings),
-        },
-    }
+    let list = DelayList::accepted(words)?;
+    call_fault(list.registers, period, timings)?;
+    Ok(checked(list, period, timings))
 }

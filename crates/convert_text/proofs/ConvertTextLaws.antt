@@ -15,26 +15,28 @@ use Rattle.words.specs.Bytes.{byte_bits, to_words, to_bytes}
 use Rattle.words.proofs.BytesLaws.{bytes-size}
 use Rattle.ordering.specs.Order.{Ascends}
 use Rattle.ordering.proofs.OrderLaws.{ordered-length}
-use Rattle.refusals.specs.Checks.{first_fault}
+use Rattle.refusals.specs.Checks.{number_of, first_fault}
 use Rattle.refusals.specs.Reply.{numbers, done, reply_of, buffer_after, told}
 use Rattle.refusals.proofs.CheckLaws.{both-pass, passed}
 use Rattle.refusals.proofs.ReplyLaws.{numbers-none, numbers-done, told-refusal}
 use Rattle.list_format.specs.Lists.{word, registers, pair_count, need_words_by, need_words, written_at, stored_checks, IsAccepted}
 use Rattle.list_format.proofs.ListLaws.{ListIn, accepted-in, list-pass}
-use Rattle.converter.specs.Convert.{written_pairs, converted, convert_checks, converting, convert_reply, ConvertedAs}
-use Rattle.converter.specs.declared.Converting.{Converting}
-use Rattle.converter.specs.declared.Converting.TheVariants.{Converted, Refused}
+use Rattle.converter.specs.Convert.{Converting, written_pairs, converted, convert_checks, converting, convert_reply, ConvertedAs}
+use Rattle.std.specs.Prelude.{Ok, Err}
+use Rattle.refusals.specs.declared.Refused.{Refused}
+use Rattle.refusals.specs.declared.Refusal.TheVariants.{Room}
 use Rattle.converter.proofs.StrungLaws.{written-length}
 use Rattle.converter.proofs.ConvertedLaws.{converting-done, ascending-kept}
 use Rattle.converter.proofs.PutLaws.{converted-size}
 use Rattle.text_pieces.specs.Pieces.{Put}
+use Rattle.text_pieces.specs.Saying.{trouble_of}
 use Rattle.text_pieces.proofs.PutLaws.{put-within}
+use Rattle.text_pieces.proofs.SaidLaws.{said-text, said-trouble}
 use Rattle.list_bytes.specs.ListBytes.{max_words, max_bytes, list_of}
 use Rattle.list_bytes.proofs.LoadLaws.{list-most, list_back}
 use Rattle.refusal_text.specs.RefusalText.{line_width, refusal_line}
-use Rattle.convert_text.specs.ConvertText.{list_bytes, error_line, stored_for, returned_for, MadeAs}
+use Rattle.convert_text.specs.ConvertText.{list_bytes, error_line, MadeAs}
 use Rattle.convert_text.specs.ConvertText.{not_converted, made_done, converted_from, converted_bytes}
-use Rattle.convert_text.specs.declared.Made.TheVariants.{Bytes, Fault}
 
 -- the bytes of all words
 pub bytes-put : (ws was now : List ℕ) → 4 * length ws ≤ length was → now ≡ over (to_bytes ws (length ws)) was
@@ -44,17 +46,11 @@ bytes-put ws was now room e =
     record { most = omega (arith, size); room = omega (arith, size); after = omega (arith, size); is = e }
 
 module _ {piece out out' : List ℕ} {next : ℕ} where
-  pub made_bytes : Put max_bytes piece out 0 out' next → MadeAs (list_bytes piece) out out' (Bytes next)
-  unfolding returned_for stored_for
-  made_bytes put =
-      let e : next ≡ length piece = omega (arith, put.after) in
-      record { answer = rw e; stored = rw e at put }
+  pub made_bytes : Put max_bytes piece out 0 out' next → MadeAs (list_bytes piece) out out' (Ok next)
+  made_bytes put = said-text put (omega arith)
 
-  pub made_fault : Put line_width piece out 0 out' next → MadeAs (error_line piece) out out' (Fault next)
-  unfolding returned_for stored_for
-  made_fault put =
-      let e : next ≡ length piece = omega (arith, put.after) in
-      record { answer = rw e; stored = rw e at (put-within put {v = max_bytes} (omega (arith, put.most))) }
+  pub made_fault : Put line_width piece out 0 out' next → MadeAs (error_line piece) out out' (Err (trouble_of next))
+  made_fault put = said-trouble put (omega arith)
 
 -- ---- from what converting promises
 
@@ -62,12 +58,12 @@ module _ {ws now : List ℕ} {r : Converting} (a : ConvertedAs ws (zeros max_wor
   answer : convert_reply r ≡ reply_of (converting ws max_words)
   answer = rw (zeros-size max_words) at a.reply
 
-  pub convert-refused : {number place next : ℕ} {out out' : List ℕ} → r ≡ Refused number place
-      → Put line_width (refusal_line number place) out 0 out' next → MadeAs (converted_from ws) out out' (Fault next)
+  pub convert-refused : {why : Refused} {next : ℕ} {out out' : List ℕ} → r ≡ Err why
+      → Put line_width (refusal_line (number_of why.refusal) why.place) out 0 out' next → MadeAs (converted_from ws) out out' (Err (trouble_of next))
   unfolding convert_reply
   convert-refused e put = rw (told-refusal not_converted made_done (converting ws max_words) (rw e at answer)) (made_fault put)
 
-  module _ {count : ℕ} (e : r ≡ Converted count) where
+  module _ {count : ℕ} (e : r ≡ Ok count) where
     given : numbers (count ∷ []) ≡ reply_of (converting ws max_words)
     unfolding convert_reply
     given = rw e at answer
@@ -85,8 +81,8 @@ module _ {ws now : List ℕ} {r : Converting} (a : ConvertedAs ws (zeros max_wor
     unfolding converting
     converted-few =
         let none = numbers-none (first_fault (convert_checks ws max_words)) (done (length (converted ws) ∷ []) (converted ws)) given in
-        let room = (both-pass (stored_checks ws) ((ltb max_words (length (converted ws)), 2, 0) ∷ []) none).1 in
-        rw size at (ltb-false max_words (length (converted ws)) (passed ((ltb max_words (length (converted ws)), 2, 0) ∷ []) room).0)
+        let room = (both-pass (stored_checks ws) ((ltb max_words (length (converted ws)), Room, 0) ∷ []) none).1 in
+        rw size at (ltb-false max_words (length (converted ws)) (passed ((ltb max_words (length (converted ws)), Room, 0) ∷ []) room).0)
 
     words-stored : now ≡ over (converted ws) (zeros max_words)
     unfolding buffer_after
@@ -103,7 +99,7 @@ module _ {ws now : List ℕ} {r : Converting} (a : ConvertedAs ws (zeros max_wor
     converted-lent = rw words_are (sym size)
 
     pub convert-done : {next : ℕ} {out out' : List ℕ} → Put (4 * length (take count now))
-        (to_bytes (take count now) (length (take count now))) out 0 out' next → MadeAs (converted_from ws) out out' (Bytes next)
+        (to_bytes (take count now) (length (take count now))) out 0 out' next → MadeAs (converted_from ws) out out' (Ok next)
     unfolding told
     convert-done put =
         let here : converted_from ws ≡ list_bytes (to_bytes (take count now) (length (take count now))) = rw (is, words_are) in

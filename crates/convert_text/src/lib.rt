@@ -8,18 +8,11 @@ ghost use Rattle.text_pieces.specs.Pieces.{Put};
 ghost use Rattle.list_bytes.specs.ListBytes.{max_bytes};
 ghost use Rattle.convert_text.specs.ConvertText.{converted_from, converted_bytes, MadeAs};
 
-use converter::Converting;
 use list_bytes::{MAX_BYTES, MAX_WORDS};
-
-// What is made, with the count of bytes stored: the bytes of a list, or a line that says what is wrong.
-#[derive(Clone, Copy)]
-pub enum Made {
-    Bytes(usize),
-    Fault(usize),
-}
+use text_pieces::Trouble;
 
 // The bytes of all words.
-fn put_bytes(out: &mut [u8], words: &[u32]) -> usize
+pub fn put_words(out: &mut [u8], words: &[u32]) -> usize
     requires { 4 * length words.now ≤ length out.old }
     ensures { Put (4 * length words.now) (to_bytes words.now (length words.now))
         out.old 0 out.new result }
@@ -30,25 +23,22 @@ fn put_bytes(out: &mut [u8], words: &[u32]) -> usize
 }
 
 // The bytes of a stored list, converted; or the line of its refusal.
-pub fn put_converted(out: &mut [u8], words: &[u32]) -> Made
+pub fn put_converted(out: &mut [u8], words: &[u32]) -> Result<usize, Trouble>
     requires { max_bytes ≤ length out.old }
     ensures { MadeAs (converted_from words.now) out.old out.new result }
 {
     let mut converted = [0u32; MAX_WORDS];
     match converter::convert(words, &mut converted) {
-        Converting::Refused(number, place) => {
-            let size = refusal_text::put_refusal(out, number, place);
-            Made::Fault(size)
+        Err(refused) => {
+            let size = refusal_text::put_refusal(out, refused);
+            Err(Trouble { size })
         }
-        Converting::Converted(count) => {
-            let size = put_bytes(out, &converted[..count]);
-            Made::Bytes(size)
-        }
+        Ok(count) => Ok(put_words(out, &converted[..count])),
     }
 }
 
 // The same from the bytes of a stored list, in the first places of `out`; later places keep their contents.
-pub fn convert_bytes(bytes: &[u8], out: &mut [u8; MAX_BYTES]) -> Made
+pub fn convert_bytes(bytes: &[u8], out: &mut [u8; MAX_BYTES]) -> Result<usize, Trouble>
     ensures { MadeAs (converted_bytes bytes.now) out.old out.new result }
 {
     let mut words = [0u32; MAX_WORDS];

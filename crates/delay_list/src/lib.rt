@@ -3,13 +3,14 @@
 #![tactic(auto)]
 
 ghost use Rattle.std.specs.Prelude.{◌≡◌, ◌+◌, ◌-◌, ◌*◌, ◌^◌, ◌<◌, ◌≤◌, true, false, ◌&&◌, [], ◌∷◌, length, nat_lt};
+ghost use Rattle.std.specs.Prelude.{Err, IfOk, IfErr};
 ghost use Rattle.words.specs.Word.{count_bits, register_bits, launch_of, capture_of, hold_of, setup_of};
 ghost use Rattle.timing.specs.Limits.{max_registers, max_period};
 ghost use Rattle.refusals.specs.Checks.{no_fault, first_fault, each_check};
 ghost use Rattle.refusals.specs.declared.Refusal.TheVariants.{NoNeeds};
 ghost use Rattle.list_format.specs.Lists.{word, registers, pair_count, need_words_by, need_words, hold_at, setup_at, needs_of, place_by, pair_place};
 ghost use Rattle.list_format.specs.Lists.{place_of, step_of, pair_of, written_at, counting, counting_needs, no_needs};
-ghost use Rattle.list_format.specs.Lists.{IsAccepted, PairIn, IsWritten, IsPair, verdict_by, verdict as verdict_of};
+ghost use Rattle.list_format.specs.Lists.{accepted, UsableList, IsAccepted, PairIn, IsWritten, IsPair, verdict_by, verdict as verdict_of};
 ghost use Rattle.list_format.specs.Lists.{head_checks, need_checks, block_checks, kind_checks, value_checks, own_checks, order_check, pair_checks};
 ghost use Rattle.list_format.specs.Lists.{end_checks, pairs_checks, body_checks};
 ghost use Rattle.list_format.specs.Walk.{next_at, place_after};
@@ -103,91 +104,6 @@ fn need_passes(words: &[u32], r: usize) -> bool
         & (words::setup(w) <= timing::MAX_NEED)
 }
 
-// Whether all words of needs do. No word ends the loop, so that several are looked at in one step.
-fn needs_pass(words: &[u32], needs: usize) -> bool
-    requires { needs < length words.now }
-    ensures { result ≡ true → first_fault (each_check (need_checks words.now) 0 needs) ≡ no_fault }
-{
-    let mut pass = true;
-    for r in 0..needs {
-        pass = pass & need_passes(words, r);
-    }
-    pass
-}
-
-// Whether all needs are 0, in a list with words of needs.
-fn none_needed(words: &[u32], needs: usize) -> bool
-    requires { (0 < needs) × ((needs ≡ need_words words.now) × (needs < length words.now)) }
-    ensures { result ≡ no_needs (needs_of words.now) }
-{
-    for r in 0..needs {
-        let w = words[1 + r];
-        if words::hold(w) != 0 {
-            return false;
-        }
-        if words::setup(w) != 0 {
-            return false;
-        }
-    }
-    true
-}
-
-// 18: words of needs, and all needs are 0.
-#[tactic(auto, unfolding(refusals::specs::Checks::or_check, refusals::specs::Checks::fault_after))]
-fn zero_fault(words: &[u32], needs: usize) -> Result<(), Refused>
-    requires { (needs ≡ need_words words.now) × (needs < length words.now) }
-    ensures { result ≡ first_fault ((nat_lt 0 needs && no_needs (needs_of words.now), NoNeeds, 1) ∷ []) }
-{
-    if needs == 0 {
-        return Ok(());
-    }
-    check(none_needed(words, needs), Refusal::NoNeeds, 1)
-}
-
-// The words of needs, one by one, then 18.
-fn needs_fault(words: &[u32], needs: usize) -> Result<(), Refused>
-    requires { (needs ≡ need_words words.now) × (needs < length words.now) }
-    ensures { result ≡ first_fault (block_checks words.now needs) }
-{
-    for r in 0..needs {
-        need_fault(words, r)?;
-    }
-    zero_fault(words, needs)
-}
-
-// The same, with no look for the first that fails where all pass.
-fn block_fault(words: &[u32], needs: usize) -> Result<(), Refused>
-    requires { (needs ≡ need_words words.now) × (needs < length words.now) }
-    ensures { result ≡ first_fault (block_checks words.now needs) }
-{
-    if needs_pass(words, needs) {
-        return zero_fault(words, needs);
-    }
-    needs_fault(words, needs)
-}
-
-// The hold need of register r: 0 where there is no word of needs for it.
-pub fn hold_at(words: &[u32], needs: usize, r: u32) -> u32
-    requires { (needs ≡ need_words words.now) × (needs < length words.now) }
-    ensures { result ≡ hold_at words.now r }
-{
-    if (r as usize) < needs {
-        return words::hold(words[1 + r as usize]);
-    }
-    0
-}
-
-// The setup need of register r: 0 where there is no word of needs for it.
-pub fn setup_at(words: &[u32], needs: usize, r: u32) -> u32
-    requires { (needs ≡ need_words words.now) × (needs < length words.now) }
-    ensures { result ≡ setup_at words.now r }
-{
-    if (r as usize) < needs {
-        return words::setup(words[1 + r as usize]);
-    }
-    0
-}
-
 // 14, 15, 16, 19: the values of a pair in a list of n registers. `hold` is that of the capture register.
 #[tactic(auto, unfolding(refusals::specs::Checks::or_check, refusals::specs::Checks::fault_after))]
 pub fn value_fault(
@@ -208,21 +124,6 @@ pub fn value_fault(
     check(p.least < hold, Refusal::Hold, least_at)
 }
 
-// All checks of pair k but for its order. Where there are words of needs, there are n of them.
-fn own_fault(words: &[u32], needs: usize, n: u32, k: usize) -> Result<(), Refused>
-    requires { (needs ≡ need_words words.now) × ((k < 2 ^ count_bits) × (pair_place words.now k + 3 ≤ length words.now)) }
-    ensures { result ≡ first_fault (own_checks words.now n k) }
-{
-    let at = pair_place(needs, k);
-    let pair = words[at];
-    let least = words[at + 1];
-    let greatest = words[at + 2];
-    kind_fault(pair, least, greatest, at)?;
-    let p = pair_of(pair, least, greatest);
-    let hold = hold_at(words, needs, p.capture);
-    value_fault(n, hold, p, at, at + 1, at + 2)
-}
-
 // What pairs are ordered by: the launch register, then the capture register.
 pub fn key(launch: u32, capture: u32) -> u64
     ensures { result ≡ launch * max_registers + capture }
@@ -237,31 +138,6 @@ fn key_of(pair: u32) -> u64
     key(words::launch(pair), words::capture(pair))
 }
 
-// 20: pair k is not above the one before it, where the order is asked for.
-fn order_fault(words: &[u32], needs: usize, asked: bool, k: usize) -> Result<(), Refused>
-    requires { (needs ≡ need_words words.now) × ((k < 2 ^ count_bits) × (pair_place words.now k + 3 ≤ length words.now)) }
-    ensures { result ≡ first_fault (order_check asked (written_at words.now) k (pair_place words.now k) ∷ []) }
-{
-    if !asked {
-        return Ok(());
-    }
-    if k == 0 {
-        return Ok(());
-    }
-    let at = pair_place(needs, k);
-    let last = key_of(words[at - 3]);
-    check(key_of(words[at]) <= last, Refusal::Order, at)
-}
-
-// All checks of pair k.
-fn pair_fault(words: &[u32], needs: usize, asked: bool, n: u32, k: usize) -> Result<(), Refused>
-    requires { (needs ≡ need_words words.now) × ((k < 2 ^ count_bits) × (pair_place words.now k + 3 ≤ length words.now)) }
-    ensures { result ≡ first_fault (pair_checks asked words.now n k) }
-{
-    own_fault(words, needs, n, k)?;
-    order_fault(words, needs, asked, k)
-}
-
 // 13 and 17: the end word, which stands at `at`.
 #[tactic(auto, unfolding(refusals::specs::Checks::or_check, refusals::specs::Checks::fault_after))]
 fn end_fault(words: &[u32], at: usize) -> Result<(), Refused>
@@ -274,24 +150,176 @@ fn end_fault(words: &[u32], at: usize) -> Result<(), Refused>
     check(words::payload(last) != sum, Refusal::Sum, at)
 }
 
-// The pairs, one by one, then the end.
-fn pairs_fault(words: &[u32], needs: usize, asked: bool, n: u32, m: usize) -> Result<(), Refused>
-    requires { (needs ≡ need_words words.now) × ((m < 2 ^ count_bits) × (length words.now ≡ pair_place words.now m + 1)) }
-    ensures { result ≡ first_fault (pairs_checks asked words.now n m) }
-{
-    for k in 0..m {
-        pair_fault(words, needs, asked, n, k)?;
-    }
-    end_fault(words, pair_place(needs, m))
+// Words of a list, with the count of those that are words of needs, which stand after the head.
+#[derive(Clone, Copy)]
+pub struct Layout<'a> {
+    pub words: &'a [u32],
+    pub needs: usize,
+    pub ghost counted: { needs ≡ need_words words.now },
+    pub ghost inside: { needs < length words.now },
 }
 
-// The checks of all that stands after the head.
-fn body_fault(words: &[u32], needs: usize, asked: bool, n: u32, m: usize) -> Result<(), Refused>
-    requires { (needs ≡ need_words words.now) × ((m < 2 ^ count_bits) × (length words.now ≡ pair_place words.now m + 1)) }
-    ensures { result ≡ first_fault (body_checks asked words.now n m) }
-{
-    block_fault(words, needs)?;
-    pairs_fault(words, needs, asked, n, m)
+impl<'a> Layout<'a> {
+    // The layout of a list.
+    pub fn of(words: &'a [u32]) -> Layout<'a>
+        requires { need_words words.now < length words.now }
+        ensures { result.words ≡ words.entry }
+    {
+        Layout {
+            words,
+            needs: need_count(words),
+        }
+    }
+
+    // Whether all words of needs pass their checks. No word ends the loop, so that several are looked at in one step.
+    fn needs_pass(self) -> bool
+        ensures { result ≡ true → first_fault (each_check (need_checks self.entry.words.now) 0 self.entry.needs) ≡ no_fault }
+    {
+        let mut pass = true;
+        for r in 0..self.needs {
+            pass = pass & need_passes(self.words, r);
+        }
+        pass
+    }
+
+    // Whether all needs are 0, in a list with words of needs.
+    fn none_needed(self) -> bool
+        requires { 0 < self.needs }
+        ensures { result ≡ no_needs (needs_of self.entry.words.now) }
+    {
+        for r in 0..self.needs {
+            let w = self.words[1 + r];
+            if words::hold(w) != 0 {
+                return false;
+            }
+            if words::setup(w) != 0 {
+                return false;
+            }
+        }
+        true
+    }
+
+    // 18: words of needs, and all needs are 0.
+    #[tactic(auto, unfolding(refusals::specs::Checks::or_check, refusals::specs::Checks::fault_after))]
+    fn zero_fault(self) -> Result<(), Refused>
+        ensures { result ≡ first_fault ((nat_lt 0 self.entry.needs && no_needs (needs_of self.entry.words.now), NoNeeds, 1) ∷ []) }
+    {
+        if self.needs == 0 {
+            return Ok(());
+        }
+        check(self.none_needed(), Refusal::NoNeeds, 1)
+    }
+
+    // The words of needs, one by one, then 18.
+    fn needs_fault(self) -> Result<(), Refused>
+        ensures { result ≡ first_fault (block_checks self.entry.words.now self.entry.needs) }
+    {
+        for r in 0..self.needs {
+            need_fault(self.words, r)?;
+        }
+        self.zero_fault()
+    }
+
+    // The same, with no look for the first that fails where all pass.
+    fn block_fault(self) -> Result<(), Refused>
+        ensures { result ≡ first_fault (block_checks self.entry.words.now self.entry.needs) }
+    {
+        if self.needs_pass() {
+            return self.zero_fault();
+        }
+        self.needs_fault()
+    }
+
+    // The hold need of register r: 0 where there is no word of needs for it.
+    pub fn hold(self, r: u32) -> u32
+        ensures { result ≡ hold_at self.entry.words.now r }
+    {
+        if (r as usize) < self.needs {
+            return words::hold(self.words[1 + r as usize]);
+        }
+        0
+    }
+
+    // The setup need of register r: 0 where there is no word of needs for it.
+    pub fn setup(self, r: u32) -> u32
+        ensures { result ≡ setup_at self.entry.words.now r }
+    {
+        if (r as usize) < self.needs {
+            return words::setup(self.words[1 + r as usize]);
+        }
+        0
+    }
+
+    // All checks of pair k but for its order. Where there are words of needs, there are n of them.
+    fn own_fault(self, n: u32, k: usize) -> Result<(), Refused>
+        requires { (k < 2 ^ count_bits) × (pair_place self.words.now k + 3 ≤ length self.words.now) }
+        ensures { result ≡ first_fault (own_checks self.entry.words.now n k) }
+    {
+        let at = pair_place(self.needs, k);
+        let pair = self.words[at];
+        let least = self.words[at + 1];
+        let greatest = self.words[at + 2];
+        kind_fault(pair, least, greatest, at)?;
+        let p = pair_of(pair, least, greatest);
+        let hold = self.hold(p.capture);
+        value_fault(n, hold, p, at, at + 1, at + 2)
+    }
+
+    // 20: pair k is not above the one before it, where the order is asked for.
+    fn order_fault(self, asked: bool, k: usize) -> Result<(), Refused>
+        requires { (k < 2 ^ count_bits) × (pair_place self.words.now k + 3 ≤ length self.words.now) }
+        ensures { result ≡ first_fault (order_check asked (written_at self.entry.words.now) k (pair_place self.entry.words.now k) ∷ []) }
+    {
+        if !asked {
+            return Ok(());
+        }
+        if k == 0 {
+            return Ok(());
+        }
+        let at = pair_place(self.needs, k);
+        let last = key_of(self.words[at - 3]);
+        check(key_of(self.words[at]) <= last, Refusal::Order, at)
+    }
+
+    // All checks of pair k.
+    fn pair_fault(self, asked: bool, n: u32, k: usize) -> Result<(), Refused>
+        requires { (k < 2 ^ count_bits) × (pair_place self.words.now k + 3 ≤ length self.words.now) }
+        ensures { result ≡ first_fault (pair_checks asked self.entry.words.now n k) }
+    {
+        self.own_fault(n, k)?;
+        self.order_fault(asked, k)
+    }
+
+    // The pairs, one by one, then the end.
+    fn pairs_fault(self, asked: bool, n: u32, m: usize) -> Result<(), Refused>
+        requires { (m < 2 ^ count_bits) × (length self.words.now ≡ pair_place self.words.now m + 1) }
+        ensures { result ≡ first_fault (pairs_checks asked self.entry.words.now n m) }
+    {
+        for k in 0..m {
+            self.pair_fault(asked, n, k)?;
+        }
+        end_fault(self.words, pair_place(self.needs, m))
+    }
+
+    // The checks of all that stands after the head.
+    fn body_fault(self, asked: bool, n: u32, m: usize) -> Result<(), Refused>
+        requires { (m < 2 ^ count_bits) × (length self.words.now ≡ pair_place self.words.now m + 1) }
+        ensures { result ≡ first_fault (body_checks asked self.entry.words.now n m) }
+    {
+        self.block_fault()?;
+        self.pairs_fault(asked, n, m)
+    }
+
+    // Pair k as it is written.
+    pub fn written(self, k: usize) -> Pair
+        requires { PairIn self.words.now k }
+        ensures { IsWritten self.entry.words.now k result }
+    {
+        let first = pair_place(self.needs, k);
+        let least = self.words[first + 1];
+        let greatest = self.words[first + 2];
+        pair_of(self.words[first], least, greatest)
+    }
 }
 
 // Word i, or 0 if there is none.
@@ -310,7 +338,11 @@ fn verdict_by(words: &[u32], asked: bool) -> Result<Counts, Refused>
     head_fault(head, second, words.len())?;
     let n = words::head_registers(head);
     let m = words::head_pairs(head);
-    body_fault(words, need_words(head, second), asked, n, m as usize)?;
+    let list = Layout {
+        words,
+        needs: need_words(head, second),
+    };
+    list.body_fault(asked, n, m as usize)?;
     Ok(Counts {
         registers: n,
         pairs: m,
@@ -341,24 +373,16 @@ pub fn need_count(words: &[u32]) -> usize
 // The smallest word of needs. Where there is a pair, a word after the head that is no word of needs is its first, which is smaller.
 const FIRST_NEEDS: u32 = 0xA000_0000;
 
-// Pair k as it is written, after so many words of needs.
-pub fn three_at(words: &[u32], needs: usize, k: usize) -> Pair
-    requires { (needs ≡ need_words words.now) × ((needs < 2 ^ register_bits) × PairIn words.now k) }
-    ensures { IsWritten words.now k result }
-{
-    let first = pair_place(needs, k);
-    pair_of(words[first], words[first + 1], words[first + 2])
-}
-
 // Pair k as it is written, from its three words.
 fn pair_from(words: &[u32], k: usize) -> Pair
     requires { PairIn words.now k }
     ensures { IsWritten words.now k result }
 {
     if words[1] >= FIRST_NEEDS {
-        return three_at(words, words::head_registers(words[0]) as usize, k);
+        let needs = words::head_registers(words[0]) as usize;
+        return Layout { words, needs }.written(k);
     }
-    three_at(words, 0, k)
+    Layout { words, needs: 0 }.written(k)
 }
 
 // m, the count of pairs.
@@ -372,11 +396,7 @@ fn pair_count(words: &[u32]) -> usize
 fn pairs_left(words: &[u32], k: usize) -> usize
     ensures { result ≡ pair_count words.now - k }
 {
-    let m = pair_count(words);
-    if k < m {
-        return m - k;
-    }
-    0
+    pair_count(words).saturating_sub(k)
 }
 
 // Pair k, or the end.
@@ -487,6 +507,38 @@ pub fn pair_at(words: &[u32], k: usize) -> Pair
     ensures { IsPair words.now k result }
 {
     count_needs(words, k, written_at(words, k))
+}
+
+// A list that pairs can be taken from, with its counts of registers and pairs.
+#[derive(Clone, Copy)]
+pub struct DelayList<'a> {
+    pub words: &'a [u32],
+    pub registers: usize,
+    pub pairs: usize,
+    pub ghost usable: { UsableList words.now registers pairs },
+}
+
+impl<'a> DelayList<'a> {
+    // The list that an accepted run of words is, or the first refusal with its place.
+    pub fn accepted(words: &'a [u32]) -> Result<DelayList<'a>, Refused>
+        ensures accepted { IfOk result (λ l. (l.words ≡ words.entry) × (verdict_of words.now ≡ accepted l.registers l.pairs)) }
+        ensures refused { IfErr result (λ r. verdict_of words.now ≡ Err r) }
+    {
+        let counts = verdict(words)?;
+        Ok(DelayList {
+            words,
+            registers: counts.registers as usize,
+            pairs: counts.pairs as usize,
+        })
+    }
+
+    // Pair k, with the needs of its capture register counted in.
+    pub fn pair(self, k: usize) -> Pair
+        requires { k < self.pairs }
+        ensures { IsPair self.entry.words.now k result }
+    {
+        pair_at(self.words, k)
+    }
 }
 
 // Where a walk over m pairs begins.

@@ -1,10 +1,16 @@
 -- The registers that are forced late, as a forest in the scratch: in the first n places the depth of each register, from 1 at a root, 0 where
 -- nothing forces it; in the next n the step that forces it; and from place 6n on whether the choice of a step is broken, 1 or 0.
 use Rattle.std.specs.Prelude.{◌≡◌, ◌⊎◌, Bool, true, false, cond, List, [], ◌∷◌, ℕ, zero, suc, ◌+◌, ◌*◌, ◌/◌, ◌%◌, ◌≤◌, ◌<◌, eqb, length, get_or, take, drop, set}
+use Rattle.std.specs.Prelude.{Option, Some, None}
+use Rattle.timing.specs.declared.Pair.{Pair}
 use Rattle.timing.specs.Limits.{per_register, per_pair}
 use Rattle.list_format.specs.Lists.{pair_count, pair_at}
 use Rattle.split_laws.specs.Marks.{unset}
 use Rattle.propagate.specs.Store.{Lent}
+use Rattle.forced_late.specs.declared.Row.{Row}
+use Rattle.forced_late.specs.declared.Row.TheVariants.{EarlyEarly, EarlyLate, LateEarly, LateLate}
+use Rattle.forced_late.specs.declared.Way.{Way}
+use Rattle.forced_late.specs.declared.Way.TheVariants.{Ahead, Back}
 
 -- the rows of a step
 abbrev pub early_early : ℕ
@@ -18,6 +24,16 @@ late_early = 2
 
 abbrev pub late_late : ℕ
 late_late = 3
+
+abbrev pub number_of : Row → ℕ
+number_of EarlyEarly = early_early
+number_of EarlyLate = early_late
+number_of LateEarly = late_early
+number_of LateLate = late_late
+
+-- the step that is a choice of pair k
+abbrev pub step_of : Row → ℕ → ℕ
+step_of row k = per_pair * k + number_of row
 
 -- ---- what the scratch holds
 
@@ -121,11 +137,26 @@ pub record Along (ws : List ℕ) (n from to e : ℕ) : Type 0 where
 abbrev pub Forces : ℕ → ℕ → ℕ → ℕ → List ℕ → Type 0
 Forces n from to e S = IsBroken n S e → 1 ≤ depth_of S from → 1 ≤ depth_of S to
 
--- so it is with both steps of pair k
+-- the choice of a pair that leads ahead, from its launch to its capture, and the one that leads back
+abbrev pub row_of : Way → Row
+row_of Ahead = LateEarly
+row_of Back = EarlyLate
+
+abbrev pub from_of : Way → Pair → ℕ
+from_of Ahead p = p.launch
+from_of Back p = p.capture
+
+abbrev pub to_of : Way → Pair → ℕ
+to_of Ahead p = p.capture
+to_of Back p = p.launch
+
+-- so it is with the step of pair k that leads that way
+abbrev pub WayForces : List ℕ → ℕ → ℕ → Way → List ℕ → Type 0
+WayForces ws n k way = Forces n (from_of way (pair_at ws k)) (to_of way (pair_at ws k)) (step_of (row_of way) k)
+
+-- and with both
 abbrev pub PairForces : List ℕ → ℕ → ℕ → List ℕ → Type 0
-PairForces ws n k S =
-    Forces n (pair_at ws k).launch (pair_at ws k).capture (per_pair * k + late_early) S
-    × Forces n (pair_at ws k).capture (pair_at ws k).launch (per_pair * k + early_late) S
+PairForces ws n k S = WayForces ws n k Ahead S × WayForces ws n k Back S
 
 -- and with every pair
 abbrev pub AllForce : List ℕ → ℕ → List ℕ → Type 0
@@ -181,6 +212,7 @@ abbrev pub ClashTold : Bool → List ℕ → ℕ → List ℕ → ℕ → Type 0
 ClashTold true ws n S k = Clashes ws n S k
 ClashTold false ws n S k = Clashes ws n S k → ⊥
 
--- the first pair of m that does, or m
-abbrev pub ClashAt : List ℕ → ℕ → ℕ → List ℕ → ℕ → Type 0
-ClashAt ws n m S k = ((k < m) × Clashes ws n S k) ⊎ ((k ≡ m) × ((j : ℕ) → j < m → Clashes ws n S j → ⊥))
+-- a pair of m that does, or none
+abbrev pub ClashAt : List ℕ → ℕ → ℕ → List ℕ → Option ℕ → Type 0
+ClashAt ws n m S (Some k) = (k < m) × Clashes ws n S k
+ClashAt ws n m S None = (j : ℕ) → j < m → Clashes ws n S j → ⊥

@@ -3,36 +3,84 @@
 // on to the register across. The contracts cite `specs/Forest.antt`.
 #![tactic(auto)]
 
-ghost use Rattle.std.specs.Prelude.{◌≡◌, ◌||◌, ◌+◌, ◌*◌, ◌≤◌, ◌<◌, length};
-ghost use Rattle.timing.specs.Limits.{per_pair};
-ghost use Rattle.list_format.specs.Lists.{pair_at};
+ghost use Rattle.std.specs.Prelude.{◌≡◌, ◌*◌, ◌≤◌, ◌<◌, length, is_some};
+ghost use Rattle.timing.specs.Limits.{max_pairs};
 ghost use Rattle.propagate.specs.Store.{Lent};
-ghost use Rattle.forced_late.specs.Forest.{early_late, late_early, Marked, Growing, Grew, Grows, Along, Forces, PairForces, AllForce};
+ghost use Rattle.forced_late.specs.Forest.{number_of, step_of, row_of, from_of, to_of, Marked, Growing, Grew, Grows, Along, Forces, WayForces, PairForces, AllForce};
 ghost use Rattle.forced_late.specs.Forest.{SettledAs, Roots, Rooted, Seeding, Blank, ForcedLate, ClashTold, ClashAt};
 
-use pair_ends::{ENDS, FEW_ENDS, FEW_PAIRS, NONE, REGISTERS};
-use timing::{PER_PAIR, PER_REGISTER};
+use delay_list::DelayList;
+use pair_ends::{ENDS, Ends, FEW_ENDS, FEW_PAIRS, NONE, REGISTERS};
+use timing::{PER_PAIR, PER_REGISTER, Pair};
 
-// The rows of a step.
-pub const EARLY_EARLY: usize = 0;
-
-pub const EARLY_LATE: usize = 1;
-
-pub const LATE_EARLY: usize = 2;
-
-pub const LATE_LATE: usize = 3;
-
-// What came of a step along a pair: the register across, and whether it was marked.
-#[derive(Clone, Copy)]
-pub struct Across {
-    pub register: usize,
-    pub marked: bool,
+// The choices of a pair, by what its launch and its capture are. Each is a row of the pair.
+#[derive(Clone, Copy, Debug, PartialEq, Eq)]
+pub enum Row {
+    EarlyEarly,
+    EarlyLate,
+    LateEarly,
+    LateLate,
 }
 
-fn either(a: bool, b: bool) -> bool
-    ensures { result ≡ (a || b) }
-{
-    if a { true } else { b }
+impl Row {
+    // Its place among the four of a pair.
+    pub fn number(self) -> usize
+        ensures { result ≡ number_of self }
+    {
+        match self {
+            Row::EarlyEarly => 0,
+            Row::EarlyLate => 1,
+            Row::LateEarly => 2,
+            Row::LateLate => 3,
+        }
+    }
+
+    // The step that is this choice of pair k.
+    pub fn step(self, k: usize) -> usize
+        requires { k < max_pairs }
+        ensures { result ≡ step_of self k }
+    {
+        PER_PAIR * k + self.number()
+    }
+}
+
+// The two ways along a pair: from its launch to its capture, and back.
+#[derive(Clone, Copy, Debug, PartialEq, Eq)]
+enum Way {
+    Ahead,
+    Back,
+}
+
+impl Way {
+    // The choice of the pair that leads from a late register to a late one that way.
+    fn row(self) -> Row
+        ensures { result ≡ row_of self }
+    {
+        match self {
+            Way::Ahead => Row::LateEarly,
+            Way::Back => Row::EarlyLate,
+        }
+    }
+
+    // The register that it leads from.
+    fn from(self, p: Pair) -> usize
+        ensures { result ≡ from_of self p }
+    {
+        match self {
+            Way::Ahead => p.launch as usize,
+            Way::Back => p.capture as usize,
+        }
+    }
+
+    // The register that it leads to.
+    fn to(self, p: Pair) -> usize
+        ensures { result ≡ to_of self p }
+    {
+        match self {
+            Way::Ahead => p.capture as usize,
+            Way::Back => p.launch as usize,
+        }
+    }
 }
 
 // Register r is late, at that depth, by that step, if it is not marked yet; whether it was marked now.
@@ -49,132 +97,83 @@ fn mark(scratch: &mut [u32], n: usize, r: usize, depth: u32, step: u32) -> bool
 }
 
 // The capture of pair k is a root if early-early is broken.
-fn seed_pair(words: &[u32], n: usize, m: usize, k: usize, scratch: &mut [u32])
-    requires { Roots words.now n m scratch.old × (k < m) }
-    ensures { Rooted words.now n k scratch.old scratch.new }
+fn seed_pair(list: DelayList, k: usize, scratch: &mut [u32])
+    requires { Roots list.words.now list.registers list.pairs scratch.old × (k < list.pairs) }
+    ensures { Rooted list.entry.words.now list.entry.registers k scratch.old scratch.new }
 {
-    let step = PER_PAIR * k + EARLY_EARLY;
-    if scratch[PER_REGISTER * n + step] == 1 {
-        let p = delay_list::pair_at(words, k);
-        mark(scratch, n, p.capture as usize, 1, step as u32);
+    let step = Row::EarlyEarly.step(k);
+    if scratch[PER_REGISTER * list.registers + step] == 1 {
+        let p = list.pair(k);
+        mark(scratch, list.registers, p.capture as usize, 1, step as u32);
     }
 }
 
 // The roots.
-fn seed(words: &[u32], n: usize, m: usize, scratch: &mut [u32])
-    requires { Blank words.now n m scratch.old }
-    ensures { Seeding words.now n scratch.old scratch.new m }
+fn seed(list: DelayList, scratch: &mut [u32])
+    requires { Blank list.words.now list.registers list.pairs scratch.old }
+    ensures { Seeding list.entry.words.now list.entry.registers scratch.old scratch.new list.entry.pairs }
 {
-    let mut k = 0;
-    while k < m {
-        seed_pair(words, n, m, k, scratch);
-        k += 1;
+    for k in 0..list.pairs {
+        seed_pair(list, k, scratch);
     }
 }
 
 // If register `from` is late and the step is broken, register `to` across is late.
-fn force(
-    words: &[u32],
-    n: usize,
-    m: usize,
-    from: usize,
-    to: usize,
-    step: usize,
-    scratch: &mut [u32],
-) -> bool
-    requires { Growing words.now n m scratch.old × Along words.now n from to step }
-    ensures { Grows words.now n (Forces n from to step) scratch.old scratch.new result }
+fn force(list: DelayList, from: usize, to: usize, step: usize, scratch: &mut [u32]) -> bool
+    requires { Growing list.words.now list.registers list.pairs scratch.old × Along list.words.now list.registers from to step }
+    ensures { Grows list.entry.words.now list.entry.registers (Forces list.entry.registers from to step) scratch.old scratch.new result }
 {
-    if scratch[PER_REGISTER * n + step] != 1 {
+    if scratch[PER_REGISTER * list.registers + step] != 1 {
         return false;
     }
     let depth = scratch[from];
     if depth == 0 {
         return false;
     }
-    mark(scratch, n, to, depth + 1, step as u32)
+    mark(scratch, list.registers, to, depth + 1, step as u32)
 }
 
-// From the launch of pair k to its capture.
-fn go_ahead(words: &[u32], n: usize, m: usize, k: usize, scratch: &mut [u32]) -> Across
-    requires { Growing words.now n m scratch.old × (k < m) }
-    ensures { Grows words.now n
-        (Forces n (pair_at words.now k).launch (pair_at words.now k).capture (per_pair * k + late_early))
-        scratch.old scratch.new result.marked }
+// One way along pair k. The register across, if it was marked.
+fn follow(list: DelayList, k: usize, way: Way, scratch: &mut [u32]) -> Option<usize>
+    requires { Growing list.words.now list.registers list.pairs scratch.old × (k < list.pairs) }
+    ensures { Grows list.entry.words.now list.entry.registers (WayForces list.entry.words.now list.entry.registers k way) scratch.old scratch.new (is_some result) }
 {
-    let p = delay_list::pair_at(words, k);
-    let step = PER_PAIR * k + LATE_EARLY;
-    let marked = force(
-        words,
-        n,
-        m,
-        p.launch as usize,
-        p.capture as usize,
-        step,
-        scratch,
-    );
-    Across {
-        register: p.capture as usize,
-        marked: marked,
-    }
-}
-
-// From the capture of pair k to its launch.
-fn go_back(words: &[u32], n: usize, m: usize, k: usize, scratch: &mut [u32]) -> Across
-    requires { Growing words.now n m scratch.old × (k < m) }
-    ensures { Grows words.now n
-        (Forces n (pair_at words.now k).capture (pair_at words.now k).launch (per_pair * k + early_late))
-        scratch.old scratch.new result.marked }
-{
-    let p = delay_list::pair_at(words, k);
-    let step = PER_PAIR * k + EARLY_LATE;
-    let marked = force(
-        words,
-        n,
-        m,
-        p.capture as usize,
-        p.launch as usize,
-        step,
-        scratch,
-    );
-    Across {
-        register: p.launch as usize,
-        marked: marked,
-    }
+    let p = list.pair(k);
+    let step = way.row().step(k);
+    let across = way.to(p);
+    force(list, way.from(p), across, step, scratch).then_some(across)
 }
 
 // Both ways along pair k; whether a register was marked.
-fn step(words: &[u32], n: usize, m: usize, k: usize, scratch: &mut [u32]) -> bool
-    requires { Growing words.now n m scratch.old × (k < m) }
-    ensures { Grows words.now n (PairForces words.now n k) scratch.old scratch.new result }
+fn step(list: DelayList, k: usize, scratch: &mut [u32]) -> bool
+    requires { Growing list.words.now list.registers list.pairs scratch.old × (k < list.pairs) }
+    ensures { Grows list.entry.words.now list.entry.registers (PairForces list.entry.words.now list.entry.registers k) scratch.old scratch.new result }
 {
-    let first = go_ahead(words, n, m, k, scratch);
-    let second = go_back(words, n, m, k, scratch);
-    either(first.marked, second.marked)
+    let first = follow(list, k, Way::Ahead, scratch);
+    let second = follow(list, k, Way::Back, scratch);
+    first.is_some() | second.is_some()
 }
 
 // One sweep over all pairs; whether a register was marked.
-fn sweep(words: &[u32], n: usize, m: usize, scratch: &mut [u32]) -> bool
-    requires { Growing words.now n m scratch.old }
-    ensures { Grows words.now n (AllForce words.now n) scratch.old scratch.new result }
+fn sweep(list: DelayList, scratch: &mut [u32]) -> bool
+    requires { Growing list.words.now list.registers list.pairs scratch.old }
+    ensures { Grows list.entry.words.now list.entry.registers (AllForce list.entry.words.now list.entry.registers) scratch.old scratch.new result }
 {
     let mut moved = false;
-    let mut k = 0;
-    while k < m {
-        let o = step(words, n, m, k, scratch);
-        moved = either(moved, o);
-        k += 1;
+    for k in 0..list.pairs {
+        let marked = step(list, k, scratch);
+        moved = moved | marked;
     }
     moved
 }
 
 // Sweeps until nothing is marked.
-fn settle(words: &[u32], n: usize, m: usize, scratch: &mut [u32])
-    requires { Growing words.now n m scratch.old }
-    ensures { SettledAs words.now n scratch.old scratch.new }
+fn settle(list: DelayList, scratch: &mut [u32])
+    requires { Growing list.words.now list.registers list.pairs scratch.old }
+    ensures { SettledAs list.entry.words.now list.entry.registers scratch.old scratch.new }
 {
     loop {
-        if !sweep(words, n, m, scratch) {
+        if !sweep(list, scratch) {
             return;
         }
     }
@@ -182,148 +181,135 @@ fn settle(words: &[u32], n: usize, m: usize, scratch: &mut [u32])
 
 // The walk follows each marked register once, along the ends at it, in a line. Its order is a hint, by which the sweep after it finds
 // nothing left to mark.
-
-// The register across goes to the end of the line if it was marked. The new size.
-fn join(a: Across, line: &mut [u16; REGISTERS], size: usize) -> usize {
-    if !a.marked {
-        return size;
-    }
-    if size >= REGISTERS {
-        return size;
-    }
-    line[size] = (a.register % REGISTERS) as u16;
-    size + 1
+#[derive(Drop)]
+struct Line {
+    registers: [u16; REGISTERS],
+    size: usize,
 }
 
-// The roots, in line. How many.
-fn gather(n: usize, scratch: &[u32], line: &mut [u16; REGISTERS]) -> usize
+impl Line {
+    // A register goes to the end of the line.
+    fn join(&mut self, register: usize) {
+        if self.size < REGISTERS {
+            self.registers[self.size] = (register % REGISTERS) as u16;
+            self.size += 1;
+        }
+    }
+
+    // The register at a place of the line.
+    fn at(&self, place: usize) -> Option<usize> {
+        if place < self.size {
+            return Some(usize::from(self.registers[place % REGISTERS]));
+        }
+        None
+    }
+}
+
+// The roots, in line.
+fn gather(n: usize, scratch: &[u32]) -> Line
     requires { n ≤ length scratch.now }
 {
-    let mut size = 0;
-    let mut r = 0;
-    while r < n {
-        let a = Across {
-            register: r,
-            marked: scratch[r] != 0,
-        };
-        size = join(a, line, size);
-        r += 1;
-    }
-    size
-}
-
-// From one end of pair k to the other.
-fn cross(words: &[u32], n: usize, m: usize, k: usize, launch: bool, scratch: &mut [u32]) -> Across
-    requires { Growing words.now n m scratch.old × (k < m) }
-    ensures { Grew words.now n scratch.old scratch.new }
-{
-    if launch {
-        go_ahead(words, n, m, k, scratch)
-    } else {
-        go_back(words, n, m, k, scratch)
-    }
-}
-
-// Along the ends at register r. The new size of the line.
-fn visit(
-    words: &[u32],
-    n: usize,
-    m: usize,
-    r: usize,
-    lasts: &[u16; REGISTERS],
-    before: &[u16],
-    line: &mut [u16; REGISTERS],
-    size: usize,
-    scratch: &mut [u32],
-) -> usize
-    requires { Growing words.now n m scratch.old }
-    ensures { Grew words.now n scratch.old scratch.new }
-{
-    let mut count = size;
-    let mut end = pair_ends::last_at(lasts, r);
-    while end > 0 {
-        let k = (end - 1) / 2;
-        if k >= m {
-            return count;
+    let mut line = Line {
+        registers: [0u16; REGISTERS],
+        size: 0,
+    };
+    for (r, depth) in scratch[..n].iter().enumerate() {
+        if *depth != 0 {
+            line.join(r);
         }
-        let a = cross(words, n, m, k, end % 2 == 1, scratch);
-        count = join(a, line, count);
-        end = pair_ends::end_before(before, end);
     }
-    count
+    line
+}
+
+// Along the ends at register r.
+fn visit(list: DelayList, r: usize, ends: Ends, line: &mut Line, scratch: &mut [u32])
+    requires { Growing list.words.now list.registers list.pairs scratch.old }
+    ensures { Grew list.entry.words.now list.entry.registers scratch.old scratch.new }
+{
+    for end in ends.at(r) {
+        let k = usize::from(end / 2);
+        if k >= list.pairs {
+            return;
+        }
+        let way = if end % 2 == 0 { Way::Ahead } else { Way::Back };
+        if let Some(across) = follow(list, k, way, scratch) {
+            line.join(across);
+        }
+    }
 }
 
 // From the roots on.
-fn walk(words: &[u32], n: usize, m: usize, before: &mut [u16], scratch: &mut [u32])
-    requires { Growing words.now n m scratch.old }
-    ensures { Grew words.now n scratch.old scratch.new }
+fn walk(list: DelayList, before: &mut [u16], scratch: &mut [u32])
+    requires { Growing list.words.now list.registers list.pairs scratch.old }
+    ensures { Grew list.entry.words.now list.entry.registers scratch.old scratch.new }
 {
     let mut lasts = [0u16; REGISTERS];
-    pair_ends::link(words, m, &mut lasts, before);
-    let mut line = [0u16; REGISTERS];
-    let mut size = gather(n, scratch, &mut line);
-    let mut i = 0;
-    while i < n {
-        if i >= size {
+    let ends = pair_ends::link(list.words, list.pairs, &mut lasts, before);
+    let mut line = gather(list.registers, scratch);
+    for i in 0..list.registers {
+        let Some(r) = line.at(i) else {
             return;
-        }
-        let r = pair_ends::last_at(&line, i);
-        size = visit(words, n, m, r, &lasts, before, &mut line, size, scratch);
-        i += 1;
+        };
+        visit(list, r, ends, &mut line, scratch);
     }
+}
+
+// The same with places for so many ends.
+fn walk_ends<const PLACES: usize>(list: DelayList, scratch: &mut [u32])
+    requires { (PLACES ≤ 2 * max_pairs) × Growing list.words.now list.registers list.pairs scratch.old }
+    ensures { Grew list.entry.words.now list.entry.registers scratch.old scratch.new }
+{
+    let mut before = [NONE; PLACES];
+    walk(list, &mut before, scratch);
 }
 
 // The same with places for the ends of few pairs, or for those of the most.
-fn walk_list(words: &[u32], n: usize, m: usize, scratch: &mut [u32])
-    requires { Growing words.now n m scratch.old }
-    ensures { Grew words.now n scratch.old scratch.new }
+fn walk_list(list: DelayList, scratch: &mut [u32])
+    requires { Growing list.words.now list.registers list.pairs scratch.old }
+    ensures { Grew list.entry.words.now list.entry.registers scratch.old scratch.new }
 {
-    if m <= FEW_PAIRS {
-        let mut few = [NONE; FEW_ENDS];
-        walk(words, n, m, &mut few, scratch);
-        return;
+    if list.pairs <= FEW_PAIRS {
+        walk_ends::<FEW_ENDS>(list, scratch);
+    } else {
+        walk_ends::<ENDS>(list, scratch);
     }
-    let mut before = [NONE; ENDS];
-    walk(words, n, m, &mut before, scratch);
 }
 
 // All registers that are forced late.
-pub fn force_late(words: &[u32], n: usize, m: usize, scratch: &mut [u32])
-    requires { Blank words.now n m scratch.old }
-    ensures { ForcedLate words.now n scratch.old scratch.new }
+pub fn force_late(list: DelayList, scratch: &mut [u32])
+    requires { Blank list.words.now list.registers list.pairs scratch.old }
+    ensures { ForcedLate list.entry.words.now list.entry.registers scratch.old scratch.new }
 {
-    seed(words, n, m, scratch);
-    walk_list(words, n, m, scratch);
-    settle(words, n, m, scratch);
+    seed(list, scratch);
+    walk_list(list, scratch);
+    settle(list, scratch);
 }
 
 // Whether pair k asks for an early launch that is late.
-fn clashes(words: &[u32], n: usize, m: usize, k: usize, scratch: &[u32]) -> bool
-    requires { Lent words.now n m scratch.now × (k < m) }
-    ensures { ClashTold result words.now n scratch.now k }
+fn clashes(list: DelayList, k: usize, scratch: &[u32]) -> bool
+    requires { Lent list.words.now list.registers list.pairs scratch.now × (k < list.pairs) }
+    ensures { ClashTold result list.entry.words.now list.entry.registers scratch.now k }
 {
-    let last = PER_PAIR * k + LATE_LATE;
-    if scratch[PER_REGISTER * n + last] != 1 {
+    let last = Row::LateLate.step(k);
+    if scratch[PER_REGISTER * list.registers + last] != 1 {
         return false;
     }
-    let p = delay_list::pair_at(words, k);
+    let p = list.pair(k);
     if scratch[p.launch as usize] == 0 {
         return false;
     }
     true
 }
 
-// The first such pair, or m.
-pub fn clash(words: &[u32], n: usize, m: usize, scratch: &[u32]) -> usize
-    requires { Lent words.now n m scratch.now }
-    ensures { ClashAt words.now n m scratch.now result }
+// The first such pair, where there is one.
+pub fn clash(list: DelayList, scratch: &[u32]) -> Option<usize>
+    requires { Lent list.words.now list.registers list.pairs scratch.now }
+    ensures { ClashAt list.entry.words.now list.entry.registers list.entry.pairs scratch.now result }
 {
-    let mut k = 0;
-    while k < m {
-        if clashes(words, n, m, k, scratch) {
-            return k;
+    for k in 0..list.pairs {
+        if clashes(list, k, scratch) {
+            return Some(k);
         }
-        k += 1;
     }
-    m
+    None
 }

@@ -12,7 +12,8 @@ use Rattle.buffers.specs.Over.{over}
 use Rattle.buffers.proofs.FillLaws.{filled-front, filled-fits}
 use Rattle.words.specs.Bytes.{byte_bits, to_words, to_bytes}
 use Rattle.words.proofs.BytesLaws.{words_size, bytes_back}
-use Rattle.refusals.specs.Checks.{Check, or_check, fault_after, each_check}
+use Rattle.refusals.specs.declared.Refusal.TheVariants.{Length}
+use Rattle.refusals.specs.Checks.{Check, number_of, refused_at, or_check, fault_after, each_check}
 use Rattle.refusals.specs.Reply.{Outcome, refused, answered}
 use Rattle.refusals.proofs.ReplyLaws.{first-refused}
 use Rattle.list_format.specs.Lists.{need_words_by, list_checks}
@@ -34,8 +35,8 @@ module _ (bs : List ℕ) where
 
   -- no words: every job refuses by 11 at 0
   pub none-refused : (cs : List Check) (o : Outcome) → list_of bs ≡ [] → answered (list_checks (list_of bs) ++ cs) o ≡ refused 11 0
-  unfolding or_check fault_after each_check need_words_by
-  none-refused cs o e = first-refused (list_checks (list_of bs)) cs o (rw e)
+  unfolding or_check fault_after each_check need_words_by number_of
+  none-refused cs o e = first-refused (list_checks (list_of bs)) cs o {r = refused_at Length 0} (rw e)
 
   -- four bytes to a word
   pub list-even : length bs ≤ max_bytes → length bs % 4 ≡ 0 → list_of bs ≡ to_words bs (length bs / 4)

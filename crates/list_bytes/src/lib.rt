@@ -13,7 +13,8 @@ pub const MAX_WORDS: usize = 3 * MAX_PAIRS + 2 + MAX_REGISTERS as usize;
 pub const MAX_BYTES: usize = 4 * MAX_WORDS;
 
 // The words of `bytes`, in the first places of `words`; later places keep their contents. Their count is returned: 0 if the bytes
-// are too many or not four to a word.
+// are too many or not four to a word. Lent, and not counted, they would be plainer to callers; but what is lent out of a `&mut` leaves no
+// word for what the buffer holds afterwards.
 pub fn load(bytes: &[u8], words: &mut [u32; MAX_WORDS]) -> usize
     ensures { LoadedAs bytes.now words.old words.new result }
 {
@@ -34,15 +35,7 @@ pub fn load(bytes: &[u8], words: &mut [u32; MAX_WORDS]) -> usize
 fn is_blank(byte: u8) -> bool
     ensures { result ≡ blank_byte byte }
 {
-    match byte {
-        9 => true,
-        10 => true,
-        13 => true,
-        32 => true,
-        35 => true,
-        44 => true,
-        _ => false,
-    }
+    matches!(byte, b'\t' | b'\n' | b'\r' | b' ' | b'#' | b',')
 }
 
 // Whether a text can begin with the byte.
@@ -52,7 +45,7 @@ fn is_text_byte(byte: u8) -> bool
     if byte < b'0' {
         return is_blank(byte);
     }
-    if byte > b'9' { byte == 0xEF } else { true }
+    byte <= b'9' || byte == 0xEF
 }
 
 // Byte i, or 0 where there is none.
@@ -69,11 +62,5 @@ pub fn looks_like_text(bytes: &[u8]) -> bool
     if !is_text_byte(byte_at(bytes, 0)) {
         return false;
     }
-    if bytes.len() < 8 {
-        return true;
-    }
-    if byte_at(bytes, 6) < 9 {
-        return false;
-    }
-    byte_at(bytes, 7) < 128
+    bytes.len() < 8 || byte_at(bytes, 6) >= 9 && byte_at(bytes, 7) < 128
 }

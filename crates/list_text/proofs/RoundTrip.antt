@@ -29,9 +29,9 @@ use Rattle.list_format.proofs.WriteBack.{given-none, given-all}
 use Rattle.text_pieces.specs.Pieces.{number, space, newline}
 use Rattle.text_pieces.proofs.DecimalLaws.{decimal-few}
 use Rattle.scan.specs.declared.State.{State}
-use Rattle.scan.specs.declared.Scanned.TheVariants.{Numbers}
+use Rattle.std.specs.Prelude.{None, Ok}
 use Rattle.scan.specs.Scan.{max_numbers, max_value, text_bytes, start, is_second, number_ended, need_line, line_fault, line_ended, finished}
-use Rattle.scan.specs.Scan.{kept, after, last, mark_size, scanned, stored_of}
+use Rattle.scan.specs.Scan.{result_with, kept, after, last, mark_size, scanned, stored_of}
 use Rattle.scan.proofs.CaseLaws.{needs-other, needs-early, needs-more, needs-same, blank-line, pair_line_lem, need-line, line-next, end_kept, finish-ends}
 use Rattle.scan.proofs.ScanLaws.{no-mark}
 use Rattle.scan.proofs.ReadsLaws.{Reads, reads_none, reads_then, at, reads-space, reads-newline, reads-promise, not-second}
@@ -42,6 +42,7 @@ use Rattle.convert_text.specs.ConvertText.{list_bytes}
 use Rattle.convert_text.proofs.ConvertTextLaws.{needs-most, accepted-kept, accepted-bytes}
 use Rattle.list_text.specs.ListText.{two_line, four_line, needs_line, pair_line, text_of, list_numbers, shown_said, shown_text}
 use Rattle.list_text.specs.ListText.{needs_given, made_of, made}
+use Rattle.refusals.specs.declared.Refusal.TheVariants.{Room}
 
 -- a number of at most k digits, with the byte that ends it
 short : (k n end : ℕ) → n < 10 ^ suc k → length (number n end) ≤ k + 2
@@ -67,7 +68,7 @@ four-reads : (count needs promised a b c d : ℕ) → 0 < count → count + 4 �
     → Reads (at true count needs count promised) (four_line a b c d) (a ∷ b ∷ c ∷ d ∷ []) (at true (count + 4) needs (count + 4) promised)
 four-reads count needs promised a b c d some room ha hb hc hd =
     let four : count + 1 + 1 + 1 + 1 ≡ count + 4 = omega arith in
-    let fit : 0 ≡ line_fault true count needs (count + 1 + 1 + 1 + 1) = pair_line_lem true count needs (count + 1 + 1 + 1 + 1) refl (λ e. omega arith)
+    let fit : None ≡ line_fault true count needs (count + 1 + 1 + 1 + 1) = pair_line_lem true count needs (count + 1 + 1 + 1 + 1) refl (λ e. omega arith)
     (λ e. omega arith) four in
     let other = needs-other true count needs (count + 1 + 1 + 1 + 1) (λ e. omega arith) in
     rw four at
@@ -237,8 +238,8 @@ module _ (ws : List ℕ) (l : ListIn ws) where
     whole : mark_size text ≡ 0
     whole = no-mark true text (ap (λ (s : State). s.fault) (sym after_is))
 
-    scan-is : scanned true text ≡ Numbers total (2 * lines)
-    unfolding scanned
+    scan-is : scanned true text ≡ Ok (record { count = total; needs = 2 * lines })
+    unfolding scanned result_with
     scan-is = rw (le-ltb text_bytes (length text) text-short, whole, ← last-is)
 
     kept-none : kept (after (start true) text) (last true text) ≡ []
@@ -286,8 +287,8 @@ shown-is ws a =
     let n = registers ws in
     let m = pair_count ws in
     let l = accepted-in ws a in
-    let room = one_passes 2 0 (le-ltb list_numbers (read_places n m) (omega (arith, l.head.few, l.head.most))) in
-    let pass = pass-both (list_checks ws) ((ltb list_numbers (read_places n m), 2, 0) ∷ []) (accepted→none ws a).none room in
+    let room = one_passes Room 0 (le-ltb list_numbers (read_places n m) (omega (arith, l.head.few, l.head.most))) in
+    let pass = pass-both (list_checks ws) ((ltb list_numbers (read_places n m), Room, 0) ∷ []) (accepted→none ws a).none room in
     let xs = take_at (numbers_of ws) (needs_of ws) (4 * m) (numbers-length ws) in
     let ys = drop_at (numbers_of ws) (needs_of ws) (4 * m) (numbers-length ws) in
     rw (answered-done (read_checks ws list_numbers) (done (n ∷ m ∷ []) (numbers_of ws ++ needs_of ws)) pass, xs, ys)

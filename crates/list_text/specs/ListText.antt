@@ -8,9 +8,8 @@ use Rattle.refusals.specs.Reply.{told}
 use Rattle.list_format.specs.Read.{read_places, reading}
 use Rattle.list_format.specs.Write.{given_count, given_hold, given_setup, given_needs, writing_by}
 use Rattle.text_pieces.specs.Pieces.{number, space, newline, number_width}
-use Rattle.scan.specs.declared.Scanned.{Scanned}
-use Rattle.scan.specs.declared.Scanned.TheVariants.{Numbers, Faulty}
-use Rattle.scan.specs.Scan.{line_of, scanned, stored_of}
+use Rattle.std.specs.Prelude.{Option, None, Some, Ok, Err}
+use Rattle.scan.specs.Scan.{Scanned, line_of, scanned, stored_of}
 use Rattle.text_pieces.specs.Saying.{Saying, text}
 use Rattle.refusal_text.specs.RefusalText.{line_width, refusal_line, refusal_line_in, refused_saying, fault_line}
 use Rattle.list_bytes.specs.ListBytes.{max_words, list_of}
@@ -79,17 +78,20 @@ shown_text bs = told refused_saying shown_said (reading (list_of bs) list_number
 
 -- ---- from a text to the bytes of its list
 
--- the number of the text, counted from 1, that ends what a refusal is of, and 0 if it is of the whole, where the text has so many needs:
+-- the number of the text, counted from 1, that ends what a refusal is of, and none if it is of the whole, where the text has so many needs:
 -- 13 is of the needs of a register, 14, 15, 16 and 19 are of a pair, and their place is its index
-unfoldable pub last_of : ℕ → ℕ → ℕ → ℕ
+unfoldable pub last_of : ℕ → ℕ → ℕ → Option ℕ
 last_of needs number place =
-    cond (leb max_pairs place) 0 (cond (eqb number 13) (2 * place + 3) (cond (ltb number 14) 0 (needs + 4 * place + 5)))
+    cond (leb max_pairs place) None
+    (cond (eqb number 13) (Some (2 * place + 3)) (cond (ltb number 14) None (Some (needs + 4 * place + 5))))
 
 -- the line of a refusal; if it is not of the whole, with the line of the text bs
-unfoldable pub refused_line : List ℕ → ℕ → ℕ → ℕ → List ℕ
-refused_line bs needs number place =
-    let last : ℕ = last_of needs number place in
-    cond (eqb last 0) (refusal_line number place) (refusal_line_in number place (line_of last bs))
+unfoldable pub refused_with : List ℕ → ℕ → ℕ → Option ℕ → List ℕ
+refused_with bs number place None = refusal_line number place
+refused_with bs number place (Some last) = refusal_line_in number place (line_of last bs)
+
+abbrev pub refused_line : List ℕ → ℕ → ℕ → ℕ → List ℕ
+refused_line bs needs number place = refused_with bs number place (last_of needs number place)
 
 abbrev pub made_refused : List ℕ → ℕ → ℕ → ℕ → Product
 made_refused bs needs number place = error_line (refused_line bs needs number place)
@@ -114,8 +116,8 @@ made_with bs needs n xs = made_from bs needs n (drop needs xs) (needs_given need
 
 -- from what is scanned
 unfoldable pub made_of : List ℕ → Scanned → List ℕ → Product
-made_of bs (Faulty fault line column byte) xs = error_line (fault_line fault line column byte)
-made_of bs (Numbers count needs) xs = made_with bs needs (get_or xs 0 0) (drop 1 xs)
+made_of bs (Err wrong) xs = error_line (fault_line wrong)
+made_of bs (Ok found) xs = made_with bs found.needs (get_or xs 0 0) (drop 1 xs)
 
 -- what is made of a text
 abbrev pub made : List ℕ → Product

@@ -4,6 +4,7 @@
 
 ghost use Rattle.std.specs.Prelude.{◌+◌, ◌*◌, ◌≤◌, ◌<◌, length, get_or, take, drop, ◌≡◌};
 ghost use Rattle.text_pieces.specs.Pieces.{Put};
+ghost use Rattle.refusals.specs.Checks.{number_of};
 ghost use Rattle.refusals.specs.Reply.{told};
 ghost use Rattle.text_pieces.specs.Saying.{SaidAs};
 ghost use Rattle.refusal_text.specs.RefusalText.{line_width, refused_saying};
@@ -18,12 +19,12 @@ ghost use Rattle.convert_text.specs.ConvertText.{MadeAs};
 ghost use Rattle.buffers.specs.Run.{run};
 ghost use Rattle.buffers.specs.Over.{zeros};
 
-use convert_text::Made;
 use list_bytes::{MAX_BYTES, MAX_WORDS};
-use list_format::{Reading, Writing};
+use list_format::Counts;
 use refusal_text::LINE_WIDTH;
-use scan::{MAX_NUMBERS, Scanned};
-use text_pieces::{NUMBER_WIDTH, Said, put_number};
+use refusals::{Refusal, Refused};
+use scan::MAX_NUMBERS;
+use text_pieces::{NUMBER_WIDTH, Trouble, put_number};
 use timing::{MAX_PAIRS, MAX_REGISTERS};
 
 // The needs of all registers.
@@ -53,11 +54,9 @@ fn put_needs(text: &mut [u8], at: usize, needs: &[u32], n: usize) -> usize
     ensures { Put (two_width * n) (run (needs_line needs.now) n) text.old at text.new result }
 {
     let mut last = at;
-    let mut r = 0;
-    while r < n {
+    for r in 0..n {
         let i = 2 * r;
         last = put_two(text, last, needs[i], needs[i + 1]);
-        r += 1;
     }
     last
 }
@@ -79,8 +78,7 @@ fn put_pairs(text: &mut [u8], at: usize, numbers: &[u32], m: usize) -> usize
     ensures { Put (pair_width * m) (run (pair_line numbers.now) m) text.old at text.new result }
 {
     let mut last = at;
-    let mut k = 0;
-    while k < m {
+    for k in 0..m {
         let i = 4 * k;
         last = put_pair(
             text,
@@ -90,7 +88,6 @@ fn put_pairs(text: &mut [u8], at: usize, numbers: &[u32], m: usize) -> usize
             numbers[i + 2],
             numbers[i + 3],
         );
-        k += 1;
     }
     last
 }
@@ -117,37 +114,36 @@ fn put_list(text: &mut [u8], n: u32, numbers: &[u32], needs: &[u32]) -> usize
     put_pairs(text, second, numbers, m)
 }
 
-// The text of n registers and m pairs, from what reading stores: four numbers for each pair, then the needs.
-fn put_read(text: &mut [u8], n: u32, m: u32, stored: &[u32]) -> usize
-    requires { ((n ≤ max_registers) × (m ≤ max_pairs)) × ((read_places n m ≤ length stored.now) × (list_width ≤ length text.old)) }
-    ensures { Put list_width (text_of n (take (4 * m) stored.now) (take (2 * n) (drop (4 * m) stored.now)))
+// The text of so many registers and pairs, from what reading stores: four numbers for each pair, then the needs.
+fn put_read(text: &mut [u8], counts: Counts, stored: &[u32]) -> usize
+    requires { ((counts.registers ≤ max_registers) × (counts.pairs ≤ max_pairs))
+        × ((read_places counts.registers counts.pairs ≤ length stored.now) × (list_width ≤ length text.old)) }
+    ensures { Put list_width (text_of counts.registers (take (4 * counts.pairs) stored.now)
+        (take (2 * counts.registers) (drop (4 * counts.pairs) stored.now)))
         text.old 0 text.new result }
 {
-    let from = 4 * m as usize;
-    let end = from + 2 * n as usize;
-    put_list(text, n, &stored[..from], &stored[from..end])
+    let from = 4 * counts.pairs as usize;
+    let end = from + 2 * counts.registers as usize;
+    put_list(text, counts.registers, &stored[..from], &stored[from..end])
 }
 
 // The text for a run of words.
-fn put_words(text: &mut [u8], words: &[u32]) -> Said
+fn put_words(text: &mut [u8], words: &[u32]) -> Result<usize, Trouble>
     requires { shown_places ≤ length text.old }
     ensures { SaidAs shown_places (told refused_saying shown_said (reading words.now list_numbers)) text.old text.new result }
 {
     let mut numbers = [0u32; LIST_NUMBERS];
     match read_list::read(words, &mut numbers) {
-        Reading::Refused(number, place) => {
-            let size = refusal_text::put_refusal(text, number, place);
-            Said::Trouble(size)
+        Err(refused) => {
+            let size = refusal_text::put_refusal(text, refused);
+            Err(Trouble { size })
         }
-        Reading::Read(n, m) => {
-            let size = put_read(text, n, m, &numbers);
-            Said::Text(size)
-        }
+        Ok(counts) => Ok(put_read(text, counts, &numbers)),
     }
 }
 
 // The text for the bytes of a list, or what is wrong, in the first places of `text`; later places keep their contents.
-pub fn show(bytes: &[u8], text: &mut [u8; TEXT_PLACES]) -> Said
+pub fn show(bytes: &[u8], text: &mut [u8; TEXT_PLACES]) -> Result<usize, Trouble>
     ensures { SaidAs shown_places (shown_text bytes.now) text.old text.new result }
 {
     let mut words = [0u32; MAX_WORDS];
@@ -155,34 +151,40 @@ pub fn show(bytes: &[u8], text: &mut [u8; TEXT_PLACES]) -> Said
     put_words(text, &words[..count])
 }
 
-// The number of the text that ends what a refusal is of: the needs of a register, or a pair; 0 if it is of the whole.
-fn last_of(needs: usize, number: u32, place: usize) -> usize
+// The number of the text that ends what a refusal is of: the needs of a register, or a pair; none if it is of the whole.
+#[tactic(auto, unfolding(crate::specs::ListText::last_of, refusals::specs::Checks::number_of))]
+fn last_of(needs: usize, refused: Refused) -> Option<usize>
     requires { needs ≤ max_numbers }
-    ensures { result ≡ last_of needs number place }
+    ensures { result ≡ last_of needs (number_of refused.refusal) refused.place }
 {
+    let place = refused.place;
     if place >= MAX_PAIRS {
-        return 0;
+        return None;
     }
-    if number == 13 {
-        return 2 * place + 3;
+    match refused.refusal {
+        Refusal::Scratch | Refusal::Room | Refusal::Call | Refusal::Length | Refusal::Size => None,
+        Refusal::Word => Some(2 * place + 3),
+        Refusal::Register
+        | Refusal::Delay
+        | Refusal::Crossed
+        | Refusal::Sum
+        | Refusal::NoNeeds
+        | Refusal::Hold
+        | Refusal::Order
+        | Refusal::Unlike
+        | Refusal::Pairs => Some(needs + 4 * place + 5),
     }
-    if number < 14 {
-        return 0;
-    }
-    needs + 4 * place + 5
 }
 
 // The line of a refusal, with the line of the text if it is not of the whole.
-fn put_refused(out: &mut [u8], text: &[u8], needs: usize, number: u32, place: usize) -> usize
+fn put_refused(out: &mut [u8], text: &[u8], needs: usize, refused: Refused) -> usize
     requires { (line_width ≤ length out.old) × ((length text.now ≤ text_bytes) × (needs ≤ max_numbers)) }
-    ensures { Put line_width (refused_line text.now needs number place) out.old 0 out.new result }
+    ensures { Put line_width (refused_line text.now needs (number_of refused.refusal) refused.place) out.old 0 out.new result }
 {
-    let last = last_of(needs, number, place);
-    if last == 0 {
-        return refusal_text::put_refusal(out, number, place);
+    match last_of(needs, refused) {
+        None => refusal_text::put_refusal(out, refused),
+        Some(last) => refusal_text::put_refusal_in(out, refused, scan::line_of(text, last)),
     }
-    let line = scan::line_of(text, last);
-    refusal_text::put_refusal_in(out, number, place, line)
 }
 
 // The bytes of the list that the numbers and the needs make, which stand in the text; so many of its numbers are needs. The pairs come in any
@@ -194,22 +196,22 @@ fn put_made(
     n: u32,
     numbers: &[u32],
     given: &[u32],
-) -> Made
+) -> Result<usize, Trouble>
     requires { (max_bytes ≤ length out.old) × ((length text.now ≤ text_bytes) × (needs ≤ max_numbers)) }
     ensures { MadeAs (made_from text.now needs n numbers.now given.now) out.old out.new result }
 {
     let mut words = [0u32; MAX_WORDS];
     match write_list::write_stored(n, numbers, given, &mut words) {
-        Writing::Refused(number, place) => {
-            let size = put_refused(out, text, needs, number, place);
-            Made::Fault(size)
+        Err(refused) => {
+            let size = put_refused(out, text, needs, refused);
+            Err(Trouble { size })
         }
-        Writing::Written(count) => convert_text::put_converted(out, &words[..count]),
+        Ok(count) => convert_text::put_converted(out, &words[..count]),
     }
 }
 
 // The same for a text without needs: all are 0. Too many registers are refused, whatever the needs.
-fn put_plain(out: &mut [u8], text: &[u8], n: u32, numbers: &[u32]) -> Made
+fn put_plain(out: &mut [u8], text: &[u8], n: u32, numbers: &[u32]) -> Result<usize, Trouble>
     requires { (max_bytes ≤ length out.old) × (length text.now ≤ text_bytes) }
     ensures { MadeAs (made_from text.now 0 n numbers.now (zeros (2 * n))) out.old out.new result }
 {
@@ -222,7 +224,7 @@ fn put_plain(out: &mut [u8], text: &[u8], n: u32, numbers: &[u32]) -> Made
 }
 
 // The bytes of the list that the numbers of a text make: the count of registers, then so many needs, then four for each pair.
-fn put_numbers(out: &mut [u8], text: &[u8], needs: usize, numbers: &[u32]) -> Made
+fn put_numbers(out: &mut [u8], text: &[u8], needs: usize, numbers: &[u32]) -> Result<usize, Trouble>
     requires { ((max_bytes ≤ length out.old) × (length text.now ≤ text_bytes)) × ((needs < length numbers.now) × (needs ≤ max_numbers)) }
     ensures { MadeAs (made_with text.now needs (get_or numbers.now 0 0) (drop 1 numbers.now))
         out.old out.new result }
@@ -243,15 +245,15 @@ fn put_numbers(out: &mut [u8], text: &[u8], needs: usize, numbers: &[u32]) -> Ma
 
 // The bytes of the list that a text describes, in the first places of `out`; later places keep their contents. The pairs of the text come in
 // any order; those of the same registers are joined. Of a faulty text, or of numbers that make no list, one line says what is wrong.
-pub fn make(text: &[u8], out: &mut [u8; MAX_BYTES]) -> Made
+pub fn make(text: &[u8], out: &mut [u8; MAX_BYTES]) -> Result<usize, Trouble>
     ensures { MadeAs (made text.now) out.old out.new result }
 {
     let mut numbers = [0u32; MAX_NUMBERS];
     match scan::scan(text, true, &mut numbers) {
-        Scanned::Faulty(fault, line, column, byte) => {
-            let size = refusal_text::put_fault(out, fault, line, column, byte);
-            Made::Fault(size)
+        Err(wrong) => {
+            let size = refusal_text::put_fault(out, wrong);
+            Err(Trouble { size })
         }
-        Scanned::Numbers(count, needs) => put_numbers(out, text, needs, &numbers[..count]),
+        Ok(found) => put_numbers(out, text, found.needs, &numbers[..found.count]),
     }
 }

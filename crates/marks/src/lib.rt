@@ -6,12 +6,12 @@ ghost use Rattle.std.specs.Prelude.{◌≡◌, ◌≤◌, ◌<◌, length};
 ghost use Rattle.timing.specs.Rules.{pair_met, InRange};
 ghost use Rattle.split_laws.specs.Split.{time_of};
 ghost use Rattle.split_laws.specs.Choices.{late, is_late, opposite, row_launch, row_capture, flag_at};
-ghost use Rattle.split_laws.specs.Marks.{joined, Forced, Followed, Applied, Seeded, Settles};
+ghost use Rattle.split_laws.specs.Marks.{Forced, Followed, Applied, Seeded, Settles};
 
 use split_laws::Change;
 use timing::Pair;
 
-// A mark is 0 where nothing is known of a register's choice.
+// A mark is 0 where nothing is known of a register's choice. Marks stand in the scratch that a caller lends, so they are numbers.
 pub const EARLY: u32 = 1;
 
 pub const LATE: u32 = 2;
@@ -38,21 +38,6 @@ fn capture_choice(k: usize) -> u32
     ensures { result ≡ row_capture k }
 {
     if k % 2 == 0 { EARLY } else { LATE }
-}
-
-// The answer of two steps: a clash stays a clash, a change a change.
-pub fn join(a: Change, b: Change) -> Change
-    ensures { result ≡ joined a b }
-{
-    match a {
-        Change::Settled => b,
-        Change::Clash => Change::Clash,
-        Change::Changed => match b {
-            Change::Clash => Change::Clash,
-            Change::Settled => Change::Changed,
-            Change::Changed => Change::Changed,
-        },
-    }
 }
 
 // Register r is to have mark v.
@@ -95,7 +80,7 @@ fn apply(marks: &mut [u32], a: usize, b: usize, k: usize, flag: u32) -> Change
     let capture = capture_choice(k);
     let first = follow(marks, a, launch, b, opposite(capture));
     let second = follow(marks, b, capture, a, opposite(launch));
-    join(first, second)
+    first.max(second)
 }
 
 // The capture b is late where the flag says that early, early is broken: a late launch does not help.
@@ -114,31 +99,22 @@ pub fn settle(marks: &mut [u32], pair: Pair, flags: [u32; 4]) -> Change
     requires { InRange (length marks.old) pair }
     ensures { Settles pair flags marks.old marks.new result }
 {
+    let launch = pair.launch as usize;
+    let capture = pair.capture as usize;
     let mut all = Change::Settled;
-    let mut k = 0;
-    while k < 4 {
-        let o = apply(
-            marks,
-            pair.launch as usize,
-            pair.capture as usize,
-            k,
-            flags[k],
-        );
-        all = join(all, o);
-        k += 1;
+    for k in 0..4 {
+        let o = apply(marks, launch, capture, k, flags[k]);
+        all = all.max(o);
     }
-    let last = seed(marks, pair.capture as usize, flags[0]);
-    join(all, last)
+    let last = seed(marks, capture, flags[0]);
+    all.max(last)
 }
 
 // The time of a register with this mark: late is the offset, all else 0.
 pub fn time_of(offset: u32, mark: u32) -> u32
     ensures { result ≡ time_of offset (is_late mark) }
 {
-    if mark == LATE {
-        return offset;
-    }
-    0
+    if mark == LATE { offset } else { 0 }
 }
 
 // Both rules of a pair.
@@ -156,5 +132,5 @@ pub fn broken_flag(pair: Pair, period: u32, offset: u32, k: usize) -> u32
 {
     let a = time_of(offset, launch_choice(k));
     let b = time_of(offset, capture_choice(k));
-    if meets(pair, period, a, b) { 0 } else { 1 }
+    u32::from(!meets(pair, period, a, b))
 }

@@ -3,6 +3,7 @@
 -- is one store of both (`over-twice`), and clears the scratch; so each part read back is the schedule that was meant (`front`,
 -- `behind`). No rival beats them (`plan-unbeaten`), and being admissible and in range both pass a check (`admissible-passes`).
 use Prim.Native.Nat.{ℕ, ◌+◌, ◌-◌, ◌*◌, ◌≤◌}
+use Rattle.std.specs.Prelude.{Ok, Err}
 use mathlib.Core.List.{List, [], ◌∷◌, ◌++◌, append_assoc}
 use mathlib.Core.Path.{◌≡◌, refl, ap, sym, ◌∙◌}
 use native.Mathlib.Nat.{le_trans}
@@ -14,15 +15,12 @@ use Rattle.timing.specs.Rules.{Each, InRange}
 use Rattle.timing.specs.Limits.{max_timing, scratch_places}
 use Rattle.buffers.specs.Over.{over}
 use Rattle.buffers.proofs.FillLaws.{Filled, filled_put, drop-further}
-use Rattle.refusals.specs.Checks.{first_fault}
+use Rattle.refusals.specs.Checks.{first_fault, no_fault, Fault, number_of}
 use Rattle.refusals.specs.Reply.{numbers, refused, done, reply_of, buffer_after, scratch_after}
-use Rattle.refusals.specs.declared.Fault.{Fault}
-use Rattle.refusals.specs.declared.Fault.TheVariants.{None, At}
+use Rattle.refusals.specs.declared.Refused.{Refused}
 use Rattle.refusals.proofs.CheckLaws.{pass-both, both-pass, passed}
 use Rattle.refusals.proofs.ReplyLaws.{answered-done, first-refused, then-refused}
-use Rattle.list_format.specs.Lists.{registers, pair_count, pairs, list_checks, verdict, IsAccepted, UsableList}
-use Rattle.list_format.specs.declared.Verdict.TheVariants.{Accepted}
-use Rattle.list_format.specs.declared.Verdict.TheVariants.{Refused as ListRefused}
+use Rattle.list_format.specs.Lists.{registers, pair_count, pairs, list_checks, verdict, accepted, IsAccepted, UsableList}
 use Rattle.list_format.proofs.ListLaws.{refused→fault, accepted→none, none→accepted, usable-list, pairs-in-range, some-registers}
 use Rattle.counted_list.specs.Counted.{counted_in, Countable}
 use Rattle.counted_list.proofs.CountedLaws.{counted-length, counted-usable, counted-pairs}
@@ -42,43 +40,42 @@ use Rattle.plan_laws.specs.Reach.{late_above}
 use Rattle.plan_laws.proofs.TwoLaws.{two-common}
 use Rattle.plan_laws.proofs.UnbeatenLaws.{plan-unbeaten}
 use Rattle.reach.specs.Settling.{Reached}
-use Rattle.planner.specs.declared.Planning.TheVariants.{Planned, Refused}
-use Rattle.planner.specs.declared.Planning.{Planning}
-use Rattle.planner.specs.PlanCall.{plan_call_checks, plan_checks, plan_numbers, plan_timings, planning, plan_reply, PlanAs, PlanAllowed}
+use Rattle.planner.specs.declared.Planned.{Planned}
+use Rattle.planner.specs.PlanCall.{plan_call_checks, plan_checks, plan_numbers, plan_timings, planning, plan_reply, Planning, PlanAs, PlanAllowed}
 use Rattle.planner.specs.PlanCall.{PlanRoom, PlanIn, TwoIn}
 
 -- ---- a refusal changes nothing
 
 module _ (ws answer scratch : List ℕ) where
-  kept : {number place : ℕ} → planning ws (length answer) (length scratch) ≡ refused number place
-      → PlanAs ws answer answer scratch scratch (Refused number place)
+  kept : {r : Refused} → planning ws (length answer) (length scratch) ≡ refused (number_of r.refusal) r.place
+      → PlanAs ws answer answer scratch scratch (Err r)
   unfolding reply_of buffer_after scratch_after plan_reply
   kept e =
       record {
         reply = rw e;
         stored = rw e;
         left = rw e;
-        unbeaten = λ common free two offset q. let z : ◌≡◌ {A = ℕ} 0 1 = cc in absurd (omega arith);
-        passes = λ common free two offset q. let z : ◌≡◌ {A = ℕ} 0 1 = cc in absurd (omega arith);
+        unbeaten = λ p q. let z : ◌≡◌ {A = ℕ} 0 1 = cc in absurd (omega arith);
+        passes = λ p q. let z : ◌≡◌ {A = ℕ} 0 1 = cc in absurd (omega arith);
       }
 
   -- the list is refused
-  pub list-refused : {number place : ℕ} → verdict ws ≡ ListRefused number place → PlanAs ws answer answer scratch scratch (Refused number place)
+  pub list-refused : {r : Refused} → verdict ws ≡ Err r → PlanAs ws answer answer scratch scratch (Err r)
   unfolding planning
   list-refused v = kept (first-refused (list_checks ws) _ _ (refused→fault ws v))
 
   -- the list is accepted, and the caller's checks decide
-  module _ {n m : ℕ} (v : verdict ws ≡ Accepted n m) {f : Fault} (e : f ≡ first_fault (plan_call_checks n m (length answer) (length scratch))) where
+  module _ {n m : ℕ} (v : verdict ws ≡ accepted n m) {f : Fault} (e : f ≡ first_fault (plan_call_checks n m (length answer) (length scratch))) where
     fault-is : f ≡ first_fault (plan_call_checks (registers ws) (pair_count ws) (length answer) (length scratch))
     fault-is =
         let a = accepted→none ws v in
         rw (a.list.registers_are, a.list.pairs_are) at e
 
-    pub call-refused : {number place : ℕ} → f ≡ At number place → PlanAs ws answer answer scratch scratch (Refused number place)
+    pub call-refused : {r : Refused} → f ≡ Err r → PlanAs ws answer answer scratch scratch (Err r)
     unfolding planning
     call-refused g = kept (then-refused (list_checks ws) _ _ (accepted→none ws v).none (sym fault-is ∙ g))
 
-    pub call-allowed : f ≡ None → PlanAllowed ws n m (length answer) (length scratch)
+    pub call-allowed : f ≡ no_fault → PlanAllowed ws n m (length answer) (length scratch)
     call-allowed g =
         let a = accepted→none ws v in
         let call = plan_call_checks (registers ws) (pair_count ws) (length answer) (length scratch) in
@@ -146,7 +143,8 @@ module _ {ws : List ℕ} {n m : ℕ} {answer : List ℕ} (a : PlanRoom ws n m an
 
   -- both parts are stored
   pub plan-in : {top free two : ℕ} {A₁ part : List ℕ} → top ≡ common (pairs ws) → FreeIn ws answer A₁ free → TwoIn ws part two
-      → PlanIn ws answer (take n A₁ ++ (part ++ drop (2 * n - n) (drop n A₁))) (Planned top free two (top - two))
+      → PlanIn ws answer (take n A₁ ++ (part ++ drop (2 * n - n) (drop n A₁)))
+      (Ok (record { common = top; free = free; two = two; offset = top - two }))
   unfolding plan_reply
   plan-in {A₁ = A₁} {part = part} e f t =
       let w = whole a.list in
@@ -191,8 +189,8 @@ module _ {ws : List ℕ} {n m room spare : ℕ} (a : PlanAllowed ws n m room spa
 -- ---- the whole call
 
 module _ (ws answer scratch : List ℕ) {n m : ℕ} (a : PlanAllowed ws n m (length answer) (length scratch)) where
-  accepted : IsAccepted ws
-  accepted = none→accepted ws (both-pass (list_checks ws) _ a.none).0
+  is-list : IsAccepted ws
+  is-list = none→accepted ws (both-pass (list_checks ws) _ a.none).0
 
   -- the split's timings, brought to a check at the two-timing period
   two-passes : Passes ws (two_period (registers ws) (pairs ws)) (C ws)
@@ -201,7 +199,7 @@ module _ (ws answer scratch : List ℕ) {n m : ℕ} (a : PlanAllowed ws n m (len
       let w = whole a.list in
       let upto = common-upto a.list in
       let limit = timings-below max_timing (two_offset (registers ws) (pairs ws)) w.split.split (omega arith) in
-      admissible-passes ws _ (C ws) accepted w.split.from_one (le_trans w.common_last upto) w.split.size
+      admissible-passes ws _ (C ws) is-list w.split.from_one (le_trans w.common_last upto) w.split.size
       (λ r. rw w.split.shown (limit r)) w.split.meets
 
   outcome : planning ws (length answer) (length scratch) ≡ done (plan_numbers ws) (plan_timings ws)
@@ -226,12 +224,12 @@ module _ (ws answer scratch : List ℕ) {n m : ℕ} (a : PlanAllowed ws n m (len
         ∙ take_at (C ws) _ (registers ws) (whole a.list).split.size
 
     -- the numbers returned are those of the plan
-    told : {c f t o : ℕ} → r ≡ Planned c f t o
-        → (c ≡ common (pairs ws)) × ((f ≡ free_period (registers ws) (pairs ws))
-        × ((t ≡ two_period (registers ws) (pairs ws)) × (o ≡ two_offset (registers ws) (pairs ws))))
+    told : {x : Planned} → r ≡ Ok x
+        → (x.common ≡ common (pairs ws)) × ((x.free ≡ free_period (registers ws) (pairs ws))
+        × ((x.two ≡ two_period (registers ws) (pairs ws)) × (x.offset ≡ two_offset (registers ws) (pairs ws))))
     unfolding plan_reply
-    told {c} {f} {t} {o} q =
-        let said : numbers (c ∷ f ∷ t ∷ o ∷ []) ≡ numbers (plan_numbers ws) = sym (ap plan_reply q) ∙ p.reply in
+    told {x} q =
+        let said : numbers (x.common ∷ x.free ∷ x.two ∷ x.offset ∷ []) ≡ numbers (plan_numbers ws) = sym (ap plan_reply q) ∙ p.reply in
         (cc, (cc, (cc, cc)))
 
     pub planned : PlanAs ws answer A scratch S r
@@ -241,10 +239,10 @@ module _ (ws answer scratch : List ℕ) {n m : ℕ} (a : PlanAllowed ws n m (len
           reply = rw outcome p.reply;
           stored = rw outcome p.stored;
           left = rw outcome zeros;
-          unbeaten = λ c f t o q.
+          unbeaten = λ x q.
               let are = told q in
               rw (are.0, are.1.0, are.1.1.0, are.1.1.1, front, behind) (whole a.list);
-          passes = λ c f t o q.
+          passes = λ x q.
               let are = told q in
-              (passes-as ws are.1.0 front (free-passes a.list accepted), passes-as ws are.1.1.0 behind two-passes);
+              (passes-as ws are.1.0 front (free-passes a.list is-list), passes-as ws are.1.1.0 behind two-passes);
         }

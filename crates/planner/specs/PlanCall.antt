@@ -1,23 +1,23 @@
 -- What a call for the full plan comes to.
-use Rattle.std.specs.Prelude.{ℕ, ◌*◌, ◌≤◌, List, [], ◌∷◌, ◌++◌, ◌≡◌, ltb, length, take, drop}
+use Rattle.std.specs.Prelude.{ℕ, ◌*◌, ◌≤◌, List, [], ◌∷◌, ◌++◌, ◌≡◌, ltb, length, take, drop, Result, Ok, Err}
 use Rattle.timing.specs.Limits.{scratch_places}
 use Rattle.buffers.specs.Over.{over}
-use Rattle.refusals.specs.Checks.{Check, first_fault}
-use Rattle.refusals.specs.declared.Fault.TheVariants.{None}
-use Rattle.refusals.specs.Reply.{Reply, refusal, numbers, Outcome, done, reply_of, buffer_after, scratch_after, answered}
+use Rattle.refusals.specs.Checks.{Check, first_fault, no_fault}
+use Rattle.refusals.specs.declared.Refused.{Refused}
+use Rattle.refusals.specs.declared.Refusal.TheVariants.{Room, Scratch}
+use Rattle.refusals.specs.Reply.{Reply, refusal_of, numbers, Outcome, done, reply_of, buffer_after, scratch_after, answered}
 use Rattle.list_format.specs.Lists.{registers, pair_count, pairs, list_checks, UsableList}
 use Rattle.free_laws.specs.Free.{common, free_period, free_schedule}
 use Rattle.plan_laws.specs.Plan.{two_period, two_offset, two_timings}
 use Rattle.plan_laws.specs.Unbeaten.{Unbeaten}
 use Rattle.checker.specs.Check.{Passes}
-use Rattle.planner.specs.declared.Planning.{Planning}
-use Rattle.planner.specs.declared.Planning.TheVariants.{Planned, Refused}
+use Rattle.planner.specs.declared.Planned.{Planned}
 
 -- 2: an answer buffer of fewer than 2n places. 1: too little scratch
 abbrev pub plan_call_checks : ℕ → ℕ → ℕ → ℕ → List Check
 plan_call_checks n m room spare =
-    (ltb room (2 * n), 2, 0)
-    ∷ (ltb spare (scratch_places n m), 1, 0)
+    (ltb room (2 * n), Room, 0)
+    ∷ (ltb spare (scratch_places n m), Scratch, 0)
     ∷ []
 
 -- 11 to 20, then 2, 1
@@ -36,10 +36,14 @@ plan_timings ws = free_schedule (registers ws) (pairs ws) ++ two_timings (regist
 unfoldable pub planning : List ℕ → ℕ → ℕ → Outcome
 planning ws room spare = answered (plan_checks ws room spare) (done (plan_numbers ws) (plan_timings ws))
 
+-- the periods and the offset, or a refusal with its place
+abbrev pub Planning : Type 0
+Planning = Result Planned Refused
+
 -- the number and values of each case of the answer
 unfoldable pub plan_reply : Planning → Reply
-plan_reply (Planned common free two offset) = numbers (common ∷ free ∷ two ∷ offset ∷ [])
-plan_reply (Refused number place) = refusal number place
+plan_reply (Ok p) = numbers (p.common ∷ p.free ∷ p.two ∷ p.offset ∷ [])
+plan_reply (Err r) = refusal_of r
 
 -- the call with the words ws: what is returned, and each place of both buffers, for every input
 pub record PlanAs (ws answer answer' scratch scratch' : List ℕ) (r : Planning) : Type 0 where
@@ -47,17 +51,17 @@ pub record PlanAs (ws answer answer' scratch scratch' : List ℕ) (r : Planning)
   pub stored : answer' ≡ buffer_after (planning ws (length answer) (length scratch)) answer
   pub left : scratch' ≡ scratch_after (planning ws (length answer) (length scratch)) (scratch_places (registers ws) (pair_count ws)) scratch
   -- no rival beats the numbers returned and the timings in the first 2n places
-  pub unbeaten : (common free two offset : ℕ) → r ≡ Planned common free two offset
-      → Unbeaten (registers ws) (pairs ws) common free two offset (take (registers ws) answer') (take (registers ws) (drop (registers ws) answer'))
+  pub unbeaten : (p : Planned) → r ≡ Ok p
+      → Unbeaten (registers ws) (pairs ws) p.common p.free p.two p.offset (take (registers ws) answer') (take (registers ws) (drop (registers ws) answer'))
   -- brought to a check, the free timings pass at the free period, the split's timings at the two-timing period
-  pub passes : (common free two offset : ℕ) → r ≡ Planned common free two offset
-      → Passes ws free (take (registers ws) answer') × Passes ws two (take (registers ws) (drop (registers ws) answer'))
+  pub passes : (p : Planned) → r ≡ Ok p
+      → Passes ws p.free (take (registers ws) answer') × Passes ws p.two (take (registers ws) (drop (registers ws) answer'))
 
 -- ---- a call that no refusal fits
 
 -- of a usable list with n registers and m pairs, with `room` places for the answer and `spare` places of scratch
 pub record PlanAllowed (ws : List ℕ) (n m room spare : ℕ) : Type 0 where
-  pub none : first_fault (plan_checks ws room spare) ≡ None
+  pub none : first_fault (plan_checks ws room spare) ≡ no_fault
   pub list : UsableList ws n m
   pub answers : 2 * n ≤ room
   pub scratches : scratch_places n m ≤ spare

@@ -2,74 +2,66 @@
 // The contracts cite `specs/PlanCall.antt`, and the definitions of `free_laws`, `split_laws` and `plan_laws`.
 #![tactic(auto)]
 
-ghost use Rattle.std.specs.Prelude.{◌≡◌, length, drop};
+ghost use Rattle.std.specs.Prelude.{◌≡◌, ◌≤◌, ◌*◌, Ok, length, drop};
 ghost use Rattle.refusals.specs.Checks.{first_fault};
 ghost use Rattle.planner.specs.PlanCall.{plan_call_checks, PlanAllowed, PlanRoom, PlanIn, TwoIn, PlanAs};
 ghost use Rattle.list_format.specs.Lists.{registers, pairs, UsableList};
-ghost use Rattle.timing.specs.Limits.{scratch_places};
+ghost use Rattle.timing.specs.Limits.{scratch_places, max_pairs};
 ghost use Rattle.free_laws.specs.Free.{common as common_of, free_period};
 
-use list_format::Verdict;
-use pair_ends::{ENDS, FEW_ENDS, FEW_PAIRS, NONE, REGISTERS};
-use refusals::Fault;
+use list_format::Counts;
+use pair_ends::{ENDS, Ends, FEW_ENDS, FEW_PAIRS, NONE, REGISTERS};
+use refusals::{Refusal, Refused, check};
 
-// The common, the free and the two-timing period and the offset, or a refusal with its place.
-#[derive(Clone, Copy)]
-pub enum Planning {
-    Planned(u32, u32, u32, u32),
-    Refused(u32, usize),
+// The common, the free and the two-timing period, and the offset.
+#[derive(Clone, Copy, Debug, PartialEq, Eq)]
+pub struct Planned {
+    pub common: u32,
+    pub free: u32,
+    pub two: u32,
+    pub offset: u32,
 }
 
 // The caller's checks: 2 for an answer buffer of fewer than 2n places, 1 for too little scratch.
-fn call_fault(n: u32, m: u32, room: usize, spare: usize) -> Fault
-    ensures { result ≡ first_fault (plan_call_checks n m room spare) }
+#[tactic(auto, unfolding(refusals::specs::Checks::or_check, refusals::specs::Checks::fault_after))]
+fn call_fault(counts: Counts, room: usize, spare: usize) -> Result<(), Refused>
+    ensures { result ≡ first_fault (plan_call_checks counts.registers counts.pairs room spare) }
 {
-    let need = timing::scratch_places(n as usize, m as usize);
-    Fault::None
-        .or(room < 2 * (n as usize), 2, 0)
-        .or(spare < need, 1, 0)
+    let n = counts.registers as usize;
+    let need = timing::scratch_places(n, counts.pairs as usize);
+    check(room < 2 * n, Refusal::Room, 0)?;
+    check(spare < need, Refusal::Scratch, 0)
 }
 
 // The two-timing period of a usable list with that common and that free period; the split's timings fill the places lent, one for each
 // register, where the reaches stand until then. The ends of the pairs at each register are a hint.
-fn fill_split(
-    words: &[u32],
-    m: usize,
-    common: u32,
-    free: u32,
-    lasts: &[u16; REGISTERS],
-    before: &[u16],
-    part: &mut [u32],
-) -> u32
+fn fill_split(words: &[u32], m: usize, common: u32, free: u32, ends: Ends, part: &mut [u32]) -> u32
     requires { UsableList words.now (length part.old) m × (common ≡ common_of (pairs words.now))
         × (free ≡ free_period (registers words.now) (pairs words.now)) }
     ensures { TwoIn words.now part.new result }
 {
-    let two = reach::two_period(words, m, common, free - 1, lasts, before, part);
+    let two = reach::two_period(words, m, common, free - 1, ends, part);
     reach::write_split(part, two, common - two);
     two
 }
 
 // The plan of a usable list with n registers and m pairs; the ends of its pairs fill the places lent.
-fn plan_by(words: &[u32], n: usize, m: usize, before: &mut [u16], answer: &mut [u32]) -> Planning
+fn plan_by(words: &[u32], n: usize, m: usize, before: &mut [u16], answer: &mut [u32]) -> Planned
     requires { PlanRoom words.now n m answer.old }
-    ensures { PlanIn words.now answer.old answer.new result }
+    ensures { PlanIn words.now answer.old answer.new (Ok result) }
 {
     let mut lasts = [0u16; REGISTERS];
-    pair_ends::link(words, m, &mut lasts, before);
+    let ends = pair_ends::link(words, m, &mut lasts, before);
     let common = free_climb::common(words, m);
-    let free = free_schedule::fill(words, n, m, &lasts, before, answer);
-    let two = fill_split(
-        words,
-        m,
+    let free = free_schedule::fill(words, n, m, ends, answer);
+    let two = fill_split(words, m, common, free, ends, &mut answer[n..2 * n]);
+    let offset = common - two;
+    Planned {
         common,
         free,
-        &lasts,
-        before,
-        &mut answer[n..2 * n],
-    );
-    let offset = common - two;
-    Planning::Planned(common, free, two, offset)
+        two,
+        offset,
+    }
 }
 
 // The plan of an accepted list. Where it has words of needs they are counted into a copy of it first, in the scratch, which is
@@ -81,9 +73,9 @@ fn plan_counted(
     before: &mut [u16],
     answer: &mut [u32],
     scratch: &mut [u32],
-) -> Planning
+) -> Planned
     requires { PlanAllowed words.now n m (length answer.old) (length scratch.old) }
-    ensures plan { PlanIn words.now answer.old answer.new result }
+    ensures plan { PlanIn words.now answer.old answer.new (Ok result) }
     ensures rest { drop (scratch_places n m) scratch.new ≡ drop (scratch_places n m) scratch.old }
 {
     if delay_list::need_count(words) == 0 {
@@ -93,24 +85,40 @@ fn plan_counted(
     plan_by(scratch, n, m, before, answer)
 }
 
-// The same with places for the ends of few pairs, or for those of the most.
-fn plan_list(words: &[u32], n: usize, m: usize, answer: &mut [u32], scratch: &mut [u32]) -> Planning
-    requires { PlanAllowed words.now n m (length answer.old) (length scratch.old) }
-    ensures plan { PlanIn words.now answer.old answer.new result }
+// The same, with so many places for the ends of the pairs.
+fn plan_within<const PLACES: usize>(
+    words: &[u32],
+    n: usize,
+    m: usize,
+    answer: &mut [u32],
+    scratch: &mut [u32],
+) -> Planned
+    requires places { PLACES ≤ 2 * max_pairs }
+    requires allowed { PlanAllowed words.now n m (length answer.old) (length scratch.old) }
+    ensures plan { PlanIn words.now answer.old answer.new (Ok result) }
     ensures rest { drop (scratch_places n m) scratch.new ≡ drop (scratch_places n m) scratch.old }
 {
-    if m <= FEW_PAIRS {
-        let mut few = [NONE; FEW_ENDS];
-        return plan_counted(words, n, m, &mut few, answer, scratch);
-    }
-    let mut before = [NONE; ENDS];
+    let mut before = [NONE; PLACES];
     plan_counted(words, n, m, &mut before, answer, scratch)
 }
 
-// The same, and the scratch is left zero.
-fn show(words: &[u32], n: usize, m: usize, answer: &mut [u32], scratch: &mut [u32]) -> Planning
+// The same, with places for the ends of few pairs, or for those of the most.
+fn plan_list(words: &[u32], n: usize, m: usize, answer: &mut [u32], scratch: &mut [u32]) -> Planned
     requires { PlanAllowed words.now n m (length answer.old) (length scratch.old) }
-    ensures { PlanAs words.now answer.old answer.new scratch.old scratch.new result }
+    ensures plan { PlanIn words.now answer.old answer.new (Ok result) }
+    ensures rest { drop (scratch_places n m) scratch.new ≡ drop (scratch_places n m) scratch.old }
+{
+    if m <= FEW_PAIRS {
+        plan_within::<FEW_ENDS>(words, n, m, answer, scratch)
+    } else {
+        plan_within::<ENDS>(words, n, m, answer, scratch)
+    }
+}
+
+// The same, and the scratch is left zero.
+fn show(words: &[u32], n: usize, m: usize, answer: &mut [u32], scratch: &mut [u32]) -> Planned
+    requires { PlanAllowed words.now n m (length answer.old) (length scratch.old) }
+    ensures { PlanAs words.now answer.old answer.new scratch.old scratch.new (Ok result) }
 {
     let planned = plan_list(words, n, m, answer, scratch);
     buffers::clear(scratch, timing::scratch_places(n, m));
@@ -120,14 +128,12 @@ fn show(words: &[u32], n: usize, m: usize, answer: &mut [u32], scratch: &mut [u3
 // Refusals 11 to 20 of the list, then 2 and 1. Else the three periods and the offset; the free timings fill the first n
 // places of the answer buffer, the split's timings the next n, and 6n + 4m places of scratch are left zero.
 // All later places keep their contents; a refusal changes nothing.
-pub fn plan(words: &[u32], answer: &mut [u32], scratch: &mut [u32]) -> Planning
+pub fn plan(words: &[u32], answer: &mut [u32], scratch: &mut [u32]) -> Result<Planned, Refused>
     ensures { PlanAs words.now answer.old answer.new scratch.old scratch.new result }
 {
-    match delay_list::verdict(words) {
-        Verdict::Refused(number, place) => Planning::Refused(number, place),
-        Verdict::Accepted(n, m) => match call_fault(n, m, answer.len(), scratch.len()) {
-            Fault::At(number, place) => Planning::Refused(number, place),
-            Fault::None => show(words, n as usize, m as usize, answer, scratch),
-        },
-    }
+    let counts = delay_list::verdict(words)?;
+    call_fault(counts, answer.len(), scratch.len())?;
+    let n = counts.registers as usize;
+    let m = counts.pairs as usize;
+    Ok(show(words, n, m, answer, scratch))
 }

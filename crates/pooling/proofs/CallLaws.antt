@@ -12,22 +12,23 @@ use Rattle.ordering.specs.Order.{Ascends}
 use Rattle.ordering.proofs.OrderLaws.{ascends_same}
 use Rattle.ordering.proofs.OrderLaws.{list-ascends as ascending-list}
 use Rattle.buffers.specs.Over.{over}
-use Rattle.refusals.specs.Checks.{first_fault}
-use Rattle.refusals.specs.declared.Fault.TheVariants.{None, At}
+use Rattle.std.specs.Prelude.{Result, Ok, Err}
+use Rattle.refusals.specs.Checks.{no_fault, number_of, first_fault}
+use Rattle.refusals.specs.declared.Refused.{Refused}
 use Rattle.refusals.specs.Reply.{refused, done, reply_of, buffer_after}
 use Rattle.refusals.proofs.CheckLaws.{passed, passes, stop-first, pass-first}
 use Rattle.refusals.proofs.ReplyLaws.{first-refused, then-refused, then-done}
 use Rattle.list_format.specs.Lists.{registers, pair_count, written_at, list_checks, verdict, IsAccepted}
-use Rattle.list_format.specs.declared.Verdict.TheVariants.{Refused}
 use Rattle.list_format.proofs.ListLaws.{same, no_difference, refused→fault, accepted→none, accepted-in, list-in, list-ascends}
 use Rattle.converter.specs.Convert.{written_pairs}
 use Rattle.relist.specs.Relist.{relisted}
 use Rattle.converter.proofs.StrungLaws.{no_pair, written-length, written-at}
 use Rattle.relist.proofs.RelistLaws.{relisted-same}
 use Rattle.merging.specs.Merge.{pooled_pairs}
-use Rattle.pooling.specs.Pool.{pooled, same_needs, both_checks, pooling, no_fault, refused_list, of_list, pool_reply, StandsFor, PooledAs}
-use Rattle.pooling.specs.declared.Pooling.TheVariants.{Pooled}
-use Rattle.pooling.specs.declared.Pooling.TheVariants.{Refused as NotPooled}
+use Rattle.pooling.specs.Pool.{pooled, same_needs, both_checks, pooling, is_passed, refused_list, of_list, number_of_part, refused_part, part_of, Pooling, pool_reply, StandsFor, PooledAs}
+use Rattle.pooling.specs.declared.PoolPart.{PoolPart}
+use Rattle.pooling.specs.declared.PoolPart.TheVariants.{Call, First, Second}
+use Rattle.pooling.specs.declared.PoolRefused.{PoolRefused}
 use Rattle.pooling.proofs.PoolLaws.{OneChip, turned-chip, at_same, pooled-stands, pairs-turned, pooled-turned, pairs-itself}
 
 -- ---- what passed checks of both lists say
@@ -39,7 +40,7 @@ pub record BothPassed (ws vs : List ℕ) (room : ℕ) : Type 0 where
   pub fits : length (pooled ws vs) ≤ room
 
 module _ (ws vs : List ℕ) (room : ℕ) where
-  pub both-passed : first_fault (both_checks ws vs room) ≡ None → BothPassed ws vs room
+  pub both-passed : first_fault (both_checks ws vs room) ≡ no_fault → BothPassed ws vs room
   both-passed e =
       let p = passed (both_checks ws vs room) e in
       record {
@@ -49,7 +50,7 @@ module _ (ws vs : List ℕ) (room : ℕ) where
         fits = ltb-false room (length (pooled ws vs)) p.1.1.1.0;
       }
 
-  pub passed-both : BothPassed ws vs room → first_fault (both_checks ws vs room) ≡ None
+  pub passed-both : BothPassed ws vs room → first_fault (both_checks ws vs room) ≡ no_fault
   passed-both b =
       passes (both_checks ws vs room) (
         no_difference (registers ws) (registers vs) b.registers_are,
@@ -58,17 +59,17 @@ module _ (ws vs : List ℕ) (room : ℕ) where
 
   -- ---- what a call comes to
 
-  first-fault : {number place : ℕ} → first_fault (list_checks ws) ≡ At number place → pooling ws vs room ≡ refused number place
+  first-fault : {r : Refused} → first_fault (list_checks ws) ≡ Err r → pooling ws vs room ≡ refused (number_of r.refusal) r.place
   unfolding pooling
   first-fault e = first-refused (list_checks ws) _ _ e
 
-  module _ (u : first_fault (list_checks ws) ≡ None) where
-    second-fault : {number place : ℕ} → first_fault (list_checks vs) ≡ At number place → pooling ws vs room ≡ refused number place
+  module _ (u : first_fault (list_checks ws) ≡ no_fault) where
+    second-fault : {r : Refused} → first_fault (list_checks vs) ≡ Err r → pooling ws vs room ≡ refused (number_of r.refusal) r.place
     unfolding pooling
     second-fault e = then-refused (list_checks ws) _ _ u (stop-first (list_checks vs) (both_checks ws vs room) e)
 
-    module _ (v : first_fault (list_checks vs) ≡ None) where
-      both-fault : {number place : ℕ} → first_fault (both_checks ws vs room) ≡ At number place → pooling ws vs room ≡ refused number place
+    module _ (v : first_fault (list_checks vs) ≡ no_fault) where
+      both-fault : {r : Refused} → first_fault (both_checks ws vs room) ≡ Err r → pooling ws vs room ≡ refused (number_of r.refusal) r.place
       unfolding pooling
       both-fault e = then-refused (list_checks ws) _ _ u (pass-first (list_checks vs) (both_checks ws vs room) v ∙ e)
 
@@ -79,62 +80,85 @@ module _ (ws vs : List ℕ) (room : ℕ) where
 -- ---- which list
 
 module _ (ws vs : List ℕ) where
-  of-first : {number place : ℕ} → first_fault (list_checks ws) ≡ At number place → refused_list ws vs ≡ 1
-  unfolding no_fault
+  of-first : {r : Refused} → first_fault (list_checks ws) ≡ Err r → refused_list ws vs ≡ 1
+  unfolding is_passed
   of-first e = rw e
 
-  of-second : {number place : ℕ} → first_fault (list_checks ws) ≡ None → first_fault (list_checks vs) ≡ At number place → refused_list ws vs ≡ 2
-  unfolding no_fault
+  of-second : {r : Refused} → first_fault (list_checks ws) ≡ no_fault → first_fault (list_checks vs) ≡ Err r → refused_list ws vs ≡ 2
+  unfolding is_passed
   of-second u e = rw (u, e)
 
-  of-neither : first_fault (list_checks ws) ≡ None → first_fault (list_checks vs) ≡ None → refused_list ws vs ≡ 0
-  unfolding no_fault
+  of-neither : first_fault (list_checks ws) ≡ no_fault → first_fault (list_checks vs) ≡ no_fault → refused_list ws vs ≡ 0
+  unfolding is_passed
   of-neither u v = rw (u, v)
+
+-- ---- what was found of a part of the call
+
+-- a refusal of the part
+pub record RefusedOf {A : Type 0} (part : PoolPart) (f : Result A Refused) (p : PoolRefused) : Type 0 where
+  pub at : Refused
+  pub was : f ≡ Err at
+  pub told : p ≡ refused_part part at
+
+module _ {A : Type 0} (part : PoolPart) where
+  error_of : Refused → Result A PoolRefused → PoolRefused
+  error_of r (Ok x) = refused_part part r
+  error_of r (Err p) = p
+
+  pub part-refused : (f : Result A Refused) {r : Result A PoolRefused} {p : PoolRefused} → r ≡ part_of part f → r ≡ Err p → RefusedOf part f p
+  unfolding part_of error_of
+  part-refused (Ok x) {r} {p} e d = let z : ◌≡◌ {A = ℕ} 0 1 = cc in absurd (omega arith)
+  part-refused (Err x) {r} {p} e d = record { at = x; was = refl; told = ap (error_of x) (sym d ∙ e) }
+
+  pub part-passed : (f : Result A Refused) {r : Result A PoolRefused} {x : A} → r ≡ part_of part f → r ≡ Ok x → f ≡ Ok x
+  unfolding part_of
+  part-passed (Ok y) e d = cc
+  part-passed (Err y) e d = let z : ◌≡◌ {A = ℕ} 0 1 = cc in absurd (omega arith)
 
 -- ---- the whole promise
 
 module _ (ws vs was : List ℕ) where
   -- a refusal changes nothing
-  not-pooled : {list number place : ℕ} → refused_list ws vs ≡ list → pooling ws vs (length was) ≡ refused number place
-      → PooledAs ws vs was was (NotPooled list number place)
+  not-pooled : {part : PoolPart} {r : Refused} → refused_list ws vs ≡ number_of_part part → pooling ws vs (length was) ≡ refused (number_of r.refusal) r.place
+      → PooledAs ws vs was was (Err (refused_part part r))
   unfolding reply_of buffer_after pool_reply of_list
   not-pooled l e =
       record {
         reply = rw (e, l);
         stored = rw e;
-        stands = λ count r. let z : ◌≡◌ {A = ℕ} 0 1 = cc in absurd (omega arith);
+        stands = λ count q. let z : ◌≡◌ {A = ℕ} 0 1 = cc in absurd (omega arith);
       }
 
-  pub pool-first-refused : {number place : ℕ} → verdict ws ≡ Refused number place → PooledAs ws vs was was (NotPooled 1 number place)
+  pub pool-first-refused : {r : Refused} → verdict ws ≡ Err r → PooledAs ws vs was was (Err (refused_part First r))
   pool-first-refused e =
       let f = refused→fault ws e in
-      not-pooled (of-first ws vs f) (first-fault ws vs (length was) f)
+      not-pooled {part = First} (of-first ws vs f) (first-fault ws vs (length was) f)
 
   module _ (a : IsAccepted ws) where
-    pub pool-second-refused : {number place : ℕ} → verdict vs ≡ Refused number place → PooledAs ws vs was was (NotPooled 2 number place)
+    pub pool-second-refused : {r : Refused} → verdict vs ≡ Err r → PooledAs ws vs was was (Err (refused_part Second r))
     pool-second-refused e =
         let u = (accepted→none ws a).none in
         let f = refused→fault vs e in
-        not-pooled (of-second ws vs u f) (second-fault ws vs (length was) u f)
+        not-pooled {part = Second} (of-second ws vs u f) (second-fault ws vs (length was) u f)
 
     module _ (b : IsAccepted vs) where
-      pub pool-refused : {number place : ℕ} → first_fault (both_checks ws vs (length was)) ≡ At number place
-          → PooledAs ws vs was was (NotPooled 0 number place)
+      pub pool-refused : {r : Refused} → first_fault (both_checks ws vs (length was)) ≡ Err r
+          → PooledAs ws vs was was (Err (refused_part Call r))
       pool-refused e =
           let u = (accepted→none ws a).none in
           let v = (accepted→none vs b).none in
-          not-pooled (of-neither ws vs u v) (both-fault ws vs (length was) u v e)
+          not-pooled {part = Call} (of-neither ws vs u v) (both-fault ws vs (length was) u v e)
 
       -- the words are stored
-      pub pool-done : first_fault (both_checks ws vs (length was)) ≡ None → (now : List ℕ) (count : ℕ) → count ≡ length (pooled ws vs)
-          → now ≡ over (pooled ws vs) was → PooledAs ws vs was now (Pooled count)
+      pub pool-done : first_fault (both_checks ws vs (length was)) ≡ no_fault → (now : List ℕ) (count : ℕ) → count ≡ length (pooled ws vs)
+          → now ≡ over (pooled ws vs) was → PooledAs ws vs was now (Ok count)
       unfolding reply_of buffer_after pool_reply of_list
       pool-done e now count c s =
           let p = both-passed ws vs (length was) e in
           let is = pooling-done ws vs (length was) (accepted→none ws a).none (accepted→none vs b).none p in
           record { reply = rw (is, c); stored = rw is s; stands = again p }
         where
-          again : BothPassed ws vs (length was) → (k : ℕ) → Pooled count ≡ Pooled k → StandsFor ws vs (take k now)
+          again : BothPassed ws vs (length was) → (k : ℕ) → ◌≡◌ {A = Pooling} (Ok count) (Ok k) → StandsFor ws vs (take k now)
           again p k e =
               let size : length (pooled ws vs) ≡ k = cc in
               let front : take k now ≡ pooled ws vs = rw (s, take_at (pooled ws vs) (drop (length (pooled ws vs)) was) k size) in

@@ -2,16 +2,15 @@
 -- around them the head, the needs and the end word.
 use Prim.Native.Nat.{ℕ, ◌+◌, ◌-◌, ◌*◌, ◌^◌, ◌≤◌, ◌<◌}
 use mathlib.Core.Bool.{cond}
-use mathlib.Core.List.{List, [], ◌∷◌, ◌++◌, append_assoc, append-nil}
+use mathlib.Core.List.{List, ◌++◌, append_assoc}
 use mathlib.Core.Path.{◌≡◌, sym, ◌∙◌, ap}
-use native.Mathlib.Numerals.{add-one}
 use native.Mathlib.Omega.{arith}
 use lib.Dec.{ltb}
-use lib.ListN.{length, get_or, take, set, length-append}
-use lib.Seq.{length-take-le, take_all, take-suc}
+use lib.ListN.{length, take, drop, length-append, length-drop}
+use lib.Seq.{length-take-le, drop-drop}
 use denote.Ref.{Bor}
 use Rattle.buffers.specs.Over.{over}
-use Rattle.buffers.proofs.FillLaws.{Filled, filled-self, filled-size, filled_put, set-put}
+use Rattle.buffers.proofs.FillLaws.{Filled, filled_put}
 use Rattle.words.specs.Word.{register_bits}
 use Rattle.list_format.specs.Lists.{pair_count, place_by}
 use Rattle.list_format.specs.Write.{three_of}
@@ -25,36 +24,16 @@ use Rattle.merging.proofs.RestLaws.{rest-words, pooled-words}
 use Rattle.pooling.specs.Pool.{PoolRoom}
 use Rattle.pooling.proofs.PoolLaws.{OneChip}
 
--- ---- a loop that copies words
+-- a part of so many places, up to a place
+pub part-size : (xs mid : List ℕ) (end : ℕ) → length xs ≤ end → end ≤ length mid
+    → length (take (end - (end - length xs)) (drop (end - length xs) mid)) ≡ length xs
+part-size xs mid end h l =
+    let left : end - (end - length xs) ≡ length xs = omega arith in
+    rw left (length-take-le (length xs) (drop (end - length xs) mid) (rw length-drop (omega arith)))
 
--- the first i of them stand in the buffer from a place on
-pub record Copying (xs : List ℕ) (at : ℕ) (was now : List ℕ) (i : ℕ) : Type 0 where
-  pub bound : i ≤ length xs
-  pub filled : Filled (take at was ++ take i xs) was now
-
-module _ (xs : List ℕ) (at : ℕ) (was : List ℕ) (room : at + length xs ≤ length was) where
-  pub copying-start : Copying xs at was was 0
-  copying-start = record { bound = omega arith; filled = rw append-nil (filled-self at was (omega arith)) }
-
-  pub copying-turn : {now : List ℕ} {i : ℕ} → Copying xs at was now i → i < length xs → Copying xs at was (set now (at + i) (get_or xs i 0)) (i + 1)
-  copying-turn {now} {i} h l =
-      let front = length-take-le at was (omega arith) in
-      let stored = length-take-le i xs (omega arith) in
-      let long = length-append (take at was) (take i xs) in
-      let size = filled-size h.filled in
-      let put = filled_put h.filled (get_or xs i 0 ∷ []) (set now (at + i) (get_or xs i 0)) {at = at + i} (omega (arith, front, stored, long))
-      (omega arith) (set-put now (at + i) (get_or xs i 0) (omega (arith, size))) in
-      record {
-        bound = omega arith;
-        filled = rw (add-one i, take-suc xs i 0 l, ← append_assoc (take at was) (take i xs) (get_or xs i 0 ∷ [])) put;
-      }
-
-  pub copying-end : {now : List ℕ} {i : ℕ} → Copying xs at was now i → length xs ≤ i → now ≡ put_at at xs was
-  copying-end {now} {i} h l =
-      let all : take i xs ≡ xs = take_all i xs l in
-      let front = length-take-le at was (omega arith) in
-      let long : length (take at was ++ xs) ≡ at + length xs = length-append (take at was) xs ∙ rw front in
-      h.filled.is ∙ rw (all, long, append_assoc)
+-- words that take the place of as many
+pub part-put : (at k : ℕ) (xs mid part : List ℕ) → k ≡ length xs → part ≡ xs → take at mid ++ (part ++ drop k (drop at mid)) ≡ put_at at xs mid
+part-put at k xs mid part e is = rw (is, e, drop-drop)
 
 -- ---- the pairs
 

@@ -1,18 +1,19 @@
 -- Pooling two lists of one chip: what a call comes to.
-use Rattle.std.specs.Prelude.{ℕ, zero, suc, ◌<◌, ◌≤◌, Bool, true, false, not, cond, ◌&&◌, List, [], ◌∷◌, ◌++◌, ◌≡◌, ltb, eqb, length, take}
+use Rattle.std.specs.Prelude.{ℕ, zero, suc, ◌<◌, ◌≤◌, Bool, true, false, not, cond, ◌&&◌, List, [], ◌∷◌, ◌++◌, ◌≡◌, ltb, eqb, length, take, Result, Ok, Err}
 use Rattle.timing.specs.Rules.{admissible}
 use Rattle.timing.specs.Limits.{max_pairs}
-use Rattle.refusals.specs.Checks.{Check, first_fault}
-use Rattle.refusals.specs.declared.Fault.{Fault}
-use Rattle.refusals.specs.declared.Fault.TheVariants.{None, At}
+use Rattle.refusals.specs.Checks.{Check, Fault, number_of, first_fault}
+use Rattle.refusals.specs.declared.Refusal.TheVariants.{Room, Unlike, Pairs}
+use Rattle.refusals.specs.declared.Refused.{Refused}
 use Rattle.refusals.specs.Reply.{Reply, refusal, numbers, Outcome, done, reply_of, buffer_after, answered}
 use Rattle.list_format.specs.Lists.{registers, pair_count, need_words, hold_at, setup_at, needs_of, place_by, pairs, differ, list_checks, IsAccepted}
 use Rattle.relist.specs.Relist.{relisted}
 use Rattle.merging.specs.Merge.{pooled_pairs}
 use Rattle.free_laws.specs.Rival.{Frac, RivalAdmissible}
 use Rattle.plan_laws.specs.Unbeaten.{WorksOver}
-use Rattle.pooling.specs.declared.Pooling.{Pooling}
-use Rattle.pooling.specs.declared.Pooling.TheVariants.{Pooled, Refused}
+use Rattle.pooling.specs.declared.PoolPart.{PoolPart}
+use Rattle.pooling.specs.declared.PoolPart.TheVariants.{Call, First, Second}
+use Rattle.pooling.specs.declared.PoolRefused.{PoolRefused}
 
 -- the pooled list: the pairs of both in order, those in both joined, with the registers and the needs of the first
 abbrev pub pooled : List ℕ → List ℕ → List ℕ
@@ -26,10 +27,10 @@ same_needs ws vs (suc r) = same_needs ws vs r && (eqb (hold_at ws r) (hold_at vs
 -- 21: other counts of registers, or other needs. 22: too many pooled pairs. 2: an answer buffer of fewer places than the pooled list has words
 abbrev pub both_checks : List ℕ → List ℕ → ℕ → List Check
 both_checks ws vs room =
-    (differ (registers ws) (registers vs), 21, 0)
-    ∷ (not (same_needs ws vs (registers ws)), 21, 0)
-    ∷ (ltb max_pairs (length (pooled_pairs ws vs)), 22, 0)
-    ∷ (ltb room (length (pooled ws vs)), 2, 0)
+    (differ (registers ws) (registers vs), Unlike, 0)
+    ∷ (not (same_needs ws vs (registers ws)), Unlike, 0)
+    ∷ (ltb max_pairs (length (pooled_pairs ws vs)), Pairs, 0)
+    ∷ (ltb room (length (pooled ws vs)), Room, 0)
     ∷ []
 
 -- 11 to 20 of the first list, then of the second, then those of both
@@ -41,12 +42,12 @@ unfoldable pub pooling : List ℕ → List ℕ → ℕ → Outcome
 pooling ws vs room = answered (pool_checks ws vs room) (done (length (pooled ws vs) ∷ []) (pooled ws vs))
 
 -- the list that a refusal is of: 1 or 2, the first of the two that is not accepted; 0 where both are
-unfoldable pub no_fault : Fault → Bool
-no_fault None = true
-no_fault (At number place) = false
+unfoldable pub is_passed : Fault → Bool
+is_passed (Ok u) = true
+is_passed (Err r) = false
 
 abbrev pub refused_list : List ℕ → List ℕ → ℕ
-refused_list ws vs = cond (no_fault (first_fault (list_checks ws))) (cond (no_fault (first_fault (list_checks vs))) 0 2) 1
+refused_list ws vs = cond (is_passed (first_fault (list_checks ws))) (cond (is_passed (first_fault (list_checks vs))) 0 2) 1
 
 -- what a caller of a call on several lists is told: a refusal, with the list that it is of, or 0 for none of them, its number and its place; or
 -- the numbers returned
@@ -59,10 +60,28 @@ unfoldable pub of_list : ℕ → Reply → ListReply
 of_list list (refusal number place) = list_refusal list number place
 of_list list (numbers returned) = list_numbers returned
 
+-- what a refusal is of, by the number of the list, or 0 for neither
+abbrev pub number_of_part : PoolPart → ℕ
+number_of_part Call = 0
+number_of_part First = 1
+number_of_part Second = 2
+
+abbrev pub refused_part : PoolPart → Refused → PoolRefused
+refused_part part r = record { «of» = part; refused = r }
+
+-- what was found of a part of the call
+unfoldable pub part_of : {A : Type 0} → PoolPart → Result A Refused → Result A PoolRefused
+part_of part (Ok x) = Ok x
+part_of part (Err r) = Err (refused_part part r)
+
+-- the count of words, or a refusal with what it is of
+abbrev pub Pooling : Type 0
+Pooling = Result ℕ PoolRefused
+
 -- the number and values of each case of the answer
 unfoldable pub pool_reply : Pooling → ListReply
-pool_reply (Pooled count) = list_numbers (count ∷ [])
-pool_reply (Refused list number place) = list_refusal list number place
+pool_reply (Ok count) = list_numbers (count ∷ [])
+pool_reply (Err p) = list_refusal (number_of_part p.«of») (number_of p.refused.refusal) p.refused.place
 
 -- the list us stands for ws and vs together: it is accepted, has their registers and needs, and asks for what each of them asks for
 pub record StandsFor (ws vs us : List ℕ) : Type 0 where
@@ -85,7 +104,7 @@ pub record PooledAs (ws vs was now : List ℕ) (r : Pooling) : Type 0 where
   pub reply : pool_reply r ≡ of_list (refused_list ws vs) (reply_of (pooling ws vs (length was)))
   pub stored : now ≡ buffer_after (pooling ws vs (length was)) was
   -- the list in the first places stands for both
-  pub stands : (count : ℕ) → r ≡ Pooled count → StandsFor ws vs (take count now)
+  pub stands : (count : ℕ) → r ≡ Ok count → StandsFor ws vs (take count now)
 
 -- ---- what the steps ask for
 

@@ -9,18 +9,48 @@ ghost use Rattle.refusals.specs.Checks.{first_fault};
 ghost use Rattle.list_format.specs.Lists.{registers, need_words, hold_at, setup_at, IsAccepted};
 ghost use Rattle.list_format.specs.Write.{three_of};
 ghost use Rattle.converter.specs.Convert.{strung};
-ghost use Rattle.converter.specs.Marks.{put_at};
 ghost use Rattle.merging.specs.Merge.{pooled_pairs};
-ghost use Rattle.pooling.specs.Pool.{pooled, same_needs, both_checks, Listed, BothIn, PoolRoom, PooledAs};
+ghost use Rattle.pooling.specs.Pool.{number_of_part, part_of, pooled, same_needs, both_checks, Listed, BothIn, PoolRoom, PooledAs};
 
-use list_format::Verdict;
-use refusals::Fault;
+use refusals::{Refusal, Refused, check};
 
-// What pooling comes to: the count of words, or a refusal: which list it is of, 1 or 2, or 0 for neither, its number and its place.
-#[derive(Clone, Copy)]
-pub enum Pooling {
-    Pooled(usize),
-    Refused(u32, u32, usize),
+// What a refusal of pooling is of: the call of both lists, or one of the two.
+#[derive(Clone, Copy, Debug, PartialEq, Eq)]
+pub enum PoolPart {
+    Call,
+    First,
+    Second,
+}
+
+impl PoolPart {
+    // 1 and 2 for the two lists, 0 for neither.
+    pub fn number(self) -> u32
+        ensures { result ≡ number_of_part self }
+    {
+        match self {
+            PoolPart::Call => 0,
+            PoolPart::First => 1,
+            PoolPart::Second => 2,
+        }
+    }
+
+    // What was found of this part.
+    #[tactic(auto, unfolding(crate::specs::Pool::part_of))]
+    fn of<T>(self, found: Result<T, Refused>) -> Result<T, PoolRefused>
+        ensures { result ≡ part_of self found }
+    {
+        match found {
+            Ok(x) => Ok(x),
+            Err(refused) => Err(PoolRefused { of: self, refused }),
+        }
+    }
+}
+
+// A refusal of pooling, and what it is of.
+#[derive(Clone, Copy, Debug, PartialEq, Eq)]
+pub struct PoolRefused {
+    pub of: PoolPart,
+    pub refused: Refused,
 }
 
 // Whether register r has the same needs in both lists.
@@ -42,10 +72,8 @@ fn same_needs(first: &[u32], second: &[u32], n: u32) -> bool
     let needs = delay_list::need_count(first);
     let others = delay_list::need_count(second);
     let mut same = true;
-    let mut r = 0;
-    while r < n {
+    for r in 0..n {
         same = same & same_at(first, needs, second, others, r);
-        r += 1;
     }
     same
 }
@@ -65,6 +93,7 @@ fn count_walked(
     let mut i = 0;
     let mut j = 0;
     let mut count = 0;
+    // A turn takes one list on, or both, so that no range counts the turns.
     while i < m && j < k {
         let p = delay_list::three_at(first, needs, i);
         let q = delay_list::three_at(second, others, j);
@@ -93,6 +122,7 @@ fn count_pooled(first: &[u32], second: &[u32]) -> usize
 }
 
 // 21, 22 and 2, for so many pooled pairs and places that they take.
+#[tactic(auto, unfolding(refusals::specs::Checks::or_check, refusals::specs::Checks::fault_after))]
 fn both_fault(
     first: &[u32],
     second: &[u32],
@@ -101,27 +131,15 @@ fn both_fault(
     count: usize,
     places: usize,
     room: usize,
-) -> Fault
+) -> Result<(), Refused>
     requires { BothIn first.now second.now n other count places }
     ensures { result ≡ first_fault (both_checks first.now second.now room) }
 {
-    Fault::None
-        .or(n != other, 21, 0)
-        .or(!same_needs(first, second, n), 21, 0)
-        .or(count > timing::MAX_PAIRS, 22, 0)
-        .or(room < places, 2, 0)
-}
-
-// Words stored in a buffer, from a place on.
-fn copy(from: &[u32], at: usize, answer: &mut [u32])
-    requires { at + length from.now ≤ length answer.old }
-    ensures { answer.new ≡ put_at at from.now answer.old }
-{
-    let mut i = 0;
-    while i < from.len() {
-        answer[at + i] = from[i];
-        i += 1;
-    }
+    check(n != other, Refusal::Unlike, 0)?;
+    let same = same_needs(first, second, n);
+    check(!same, Refusal::Unlike, 0)?;
+    check(count > timing::MAX_PAIRS, Refusal::Pairs, 0)?;
+    check(room < places, Refusal::Room, 0)
 }
 
 // The words of the pooled pairs, after the head and the words of needs: of those that are met, then the unread words of one of the lists.
@@ -138,7 +156,7 @@ fn put_pairs<'a>(
 {
     let rest = merging::merge(first, second, delay_list::pair_place(needs, 0), answer);
     let end = delay_list::pair_place(needs, count);
-    copy(rest, end - rest.len(), answer);
+    answer[end - rest.len()..end].copy_from_slice(rest);
 }
 
 // The pooled list, in the first places of the buffer.
@@ -153,7 +171,7 @@ fn put_pooled<'a>(
     requires { (n ≡ registers first.now) × PoolRoom first.now second.now needs count (length answer.old) }
     ensures { answer.new ≡ over (pooled first.now second.now) answer.old }
 {
-    relist::put_front(first, n, count, needs, answer);
+    converter::put_front(first, n, count, needs, answer);
     put_pairs(first, second, needs, count, answer);
     write_list::put_end(answer, delay_list::pair_place(needs, count));
 }
@@ -165,42 +183,31 @@ fn pool_accepted<'a>(
     n: u32,
     other: u32,
     answer: &mut [u32],
-) -> Pooling
+) -> Result<usize, PoolRefused>
     requires { (IsAccepted first.now × (n ≡ registers first.now)) × (IsAccepted second.now × (other ≡ registers second.now)) }
     ensures { PooledAs first.now second.now answer.old answer.new result }
 {
     let needs = delay_list::need_count(first);
     let count = count_pooled(first, second);
     let places = delay_list::pair_place(needs, count) + 1;
-    match both_fault(first, second, n, other, count, places, answer.len()) {
-        Fault::At(number, place) => Pooling::Refused(0, number, place),
-        Fault::None => {
-            put_pooled(first, second, n, needs, count, answer);
-            Pooling::Pooled(places)
-        }
-    }
-}
-
-// Pools a first list that is accepted, of n registers, with a second.
-fn pool_first<'a>(first: &'a [u32], second: &'a [u32], n: u32, answer: &mut [u32]) -> Pooling
-    requires { IsAccepted first.now × (n ≡ registers first.now) }
-    ensures { PooledAs first.now second.now answer.old answer.new result }
-{
-    match delay_list::verdict(second) {
-        Verdict::Refused(number, place) => Pooling::Refused(2, number, place),
-        Verdict::Accepted(other, _) => pool_accepted(first, second, n, other, answer),
-    }
+    let found = both_fault(first, second, n, other, count, places, answer.len());
+    PoolPart::Call.of(found)?;
+    put_pooled(first, second, n, needs, count, answer);
+    Ok(places)
 }
 
 // Pools two lists. The count of words is returned, and the pooled list fills the first places of the buffer: the pairs of both in order, those
 // of the same registers joined, with the smaller least and the larger greatest delay; later places keep their contents. Refusals 11 to 20 of
 // the first list, then of the second, each saying which; then 21: other counts of registers or other needs; 22: more than 2,048 pooled pairs;
 // 2: a buffer that is shorter than the pooled list. A refusal changes nothing.
-pub fn pool<'a>(first: &'a [u32], second: &'a [u32], answer: &mut [u32]) -> Pooling
+pub fn pool<'a>(
+    first: &'a [u32],
+    second: &'a [u32],
+    answer: &mut [u32],
+) -> Result<usize, PoolRefused>
     ensures { PooledAs first.now second.now answer.old answer.new result }
 {
-    match delay_list::verdict(first) {
-        Verdict::Refused(number, place) => Pooling::Refused(1, number, place),
-        Verdict::Accepted(n, _) => pool_first(first, second, n, answer),
-    }
+    let one = PoolPart::First.of(delay_list::verdict(first))?;
+    let other = PoolPart::Second.of(delay_list::verdict(second))?;
+    pool_accepted(first, second, one.registers, other.registers, answer)
 }

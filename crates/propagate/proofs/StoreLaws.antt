@@ -1,16 +1,17 @@
 -- Laws of the scratch of a trial: what is recorded, and the part that is lent to the recording.
 -- The four flags of pair k stand at places 4k to 4k + 3 (`recorded`).
 use mathlib.Core.Path.{◌≡◌, refl, sym, ap, ◌∙◌}
-use mathlib.Core.List.{List, [], ◌∷◌, ◌++◌, append-nil}
+use mathlib.Core.List.{List, [], ◌∷◌, ◌++◌, append-nil, append_assoc}
 use Prim.Native.Nat.{ℕ, zero, suc, ◌+◌, ◌-◌, ◌*◌, ◌≤◌, ◌<◌}
 use native.Mathlib.Omega.{arith}
-use lib.ListN.{length-map, length, get_or, take, drop, length-drop, drop_of_length-le, get_or-append}
+use lib.ListN.{length-map, length, get_or, take, drop, length-append, length-drop, drop_of_length-le, get_or-append}
 use lib.Seq.{ext_get_or, get_or-take, length-take-le, get_or-drop, take_all, drop-drop}
 use Rattle.timing.specs.declared.Pair.{Pair}
 use Rattle.timing.specs.Limits.{per_pair, scratch_places}
 use Rattle.buffers.specs.Run.{run}
 use Rattle.buffers.specs.Over.{over}
 use Rattle.buffers.proofs.RunLaws.{run_length, run_at}
+use Rattle.buffers.proofs.FillLaws.{Filling, filling-end}
 use Rattle.list_format.specs.Lists.{pair_count, pair_at}
 use Rattle.split_laws.specs.Split.{time_of, timings}
 use Rattle.split_laws.specs.Choices.{is_late, flag_at}
@@ -44,6 +45,14 @@ four-at F at (suc zero) h = refl
 four-at F at (suc (suc zero)) h = refl
 four-at F at (suc (suc (suc zero))) h = refl
 four-at F at (suc (suc (suc (suc j)))) h = absurd (omega arith)
+
+-- the flags of the rows, one after the other, in the four places from `at` on
+pub pair-recorded : (t s : ℕ) (p : Pair) (at : ℕ) {was now : List ℕ} {k : ℕ} → at + per_pair ≤ length was
+    → Filling (take at was) (λ j. flag_at t s p j ∷ []) per_pair was now k → per_pair ≤ k
+    → now ≡ take at was ++ (flags_of t s p ++ drop (at + per_pair) was)
+unfolding run
+pair-recorded t s p at {was} h f l =
+    filling-end f l ∙ rw (length-append, length-take-le at was (omega arith), append_assoc) refl
 
 pub recorded : (t s : ℕ) (ws after : List ℕ) → Recorded t s ws (flags_to t s ws (pair_count ws) ++ after)
 recorded t s ws after = record { each = each }

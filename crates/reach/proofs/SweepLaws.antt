@@ -217,22 +217,22 @@ split-run s two W = ext_get_or 0 _ _ (size ∙ sym sizes) each
         ∙ sym (time-of s (late_above two W) i ∙ ap (time_of s) (late-at two W i))
 
 -- those before place i are stored, each from the reach that stood in its place
-pub split-turn : (s two : ℕ) {W W' : List ℕ} {i v : ℕ} → Filling [] (times s two W) (length W) W W' i → i < length W'
+pub split-turn : (s two : ℕ) {W W' : List ℕ} {i v : ℕ} → Filling [] (times s two W) (length W) W W' i → i < length W
     → v ≡ time_of s (ltb two (get_or W' i 0)) → Filling [] (times s two W) (length W) W (set W' i v) (i + 1)
-split-turn s two {W} {W'} {i} {v} f h e =
-    let below : i < length W = omega (arith, filling-size f) in
+split-turn s two {W} {W'} {i} {v} f below e =
+    let h : i < length W' = omega (arith, filling-size f) in
     let size = run_length (times s two W) 1 (λ k. refl) i in
     let stood : get_or W' i 0 ≡ get_or W i 0 = filled-later f.filled i (omega (arith, size)) in
     filling-turn 1 (λ k. refl) (omega arith) f below i (omega arith)
     (set-put W' i v h ∙ ap (λ (u : ℕ). take i W' ++ ((u ∷ []) ++ drop (i + 1) W')) (e ∙ ap (λ (u : ℕ). time_of s (ltb two u)) stood))
 
 -- all of them are stored
-pub split-end : (s two : ℕ) (W W' : List ℕ) {i : ℕ} → Filling [] (times s two W) (length W) W W' i → length W' ≤ i
+pub split-end : (s two : ℕ) (W W' : List ℕ) {i : ℕ} → Filling [] (times s two W) (length W) W W' i → length W ≤ i
     → W' ≡ timings s (late_above two W)
 split-end s two W W' f h =
     let all : List ℕ = timings s (late_above two W) in
     let size : length all ≡ length W = length-map (late_above two W) (time_of s) ∙ length-late two W in
-    filling-end f (omega (arith, filling-size f))
+    filling-end f h
     ∙ ap (λ (ts : List ℕ). over ts W) (split-run s two W)
     ∙ ap (λ (rest : List ℕ). all ++ rest) (drop_of_length-le W {i = length all} (omega (arith, size)))
     ∙ append-nil all

@@ -11,14 +11,9 @@ ghost use Rattle.split_laws.specs.Split.{time_of, timings};
 ghost use Rattle.plan_laws.specs.Reach.{reach_of, ahead, behind, reach_period, late_above, NoneBelow, Raised, ReachStep};
 ghost use Rattle.reach.specs.Settling.{PairReaching, Reaching, Guided, ClosedAt, ClosedAll, Swept, Reached};
 
-use pair_ends::REGISTERS;
-use timing::{Pair, larger, smaller};
-
-fn either(a: bool, b: bool) -> bool
-    ensures { result ≡ (a || b) }
-{
-    if a { true } else { b }
-}
+use pair_ends::Ends;
+use register_heap::Heap;
+use timing::Pair;
 
 // Register r has at least the reach v; whether that raised it.
 fn raise(reach: &mut [u32], r: usize, v: u32) -> bool
@@ -38,7 +33,7 @@ fn raise_capture(p: Pair, top: u32, reach: &mut [u32]) -> bool
     ensures { Raised p.capture (ahead top p reach.old) reach.old reach.new result }
 {
     let half = (top + p.greatest + 1) / 2;
-    let v = larger(p.greatest, smaller(reach[p.launch as usize], half));
+    let v = p.greatest.max(reach[p.launch as usize].min(half));
     raise(reach, p.capture as usize, v)
 }
 
@@ -47,49 +42,8 @@ fn raise_launch(p: Pair, top: u32, reach: &mut [u32]) -> bool
     requires { PairReaching p top reach.old }
     ensures { Raised p.launch (behind top p reach.old) reach.old reach.new result }
 {
-    let v = smaller(reach[p.capture as usize], top - p.least);
+    let v = reach[p.capture as usize].min(top - p.least);
     raise(reach, p.launch as usize, v)
-}
-
-// Both ends of pair k; whether one was raised.
-fn step(words: &[u32], count: usize, k: usize, top: u32, reach: &mut [u32]) -> bool
-    requires { Reaching words.now count top reach.old × (k < count) }
-    ensures { ReachStep top (pairs words.now) (ClosedAt words.now top k) reach.old reach.new result }
-{
-    let p = delay_list::pair_at(words, k);
-    let first = raise_capture(p, top, reach);
-    let second = raise_launch(p, top, reach);
-    either(first, second)
-}
-
-// One sweep, up or down the list; whether it raised anything.
-fn sweep(words: &[u32], count: usize, top: u32, down: bool, reach: &mut [u32]) -> bool
-    requires { Reaching words.now count top reach.old }
-    ensures { ReachStep top (pairs words.now) (ClosedAll words.now top) reach.old reach.new result }
-{
-    let mut moved = false;
-    let mut i = 0;
-    while i < count {
-        let k = delay_list::place(count, i, down);
-        let o = step(words, count, k, top, reach);
-        moved = either(moved, o);
-        i += 1;
-    }
-    moved
-}
-
-// Sweeps up and down the list until nothing is raised.
-fn settle(words: &[u32], count: usize, top: u32, reach: &mut [u32])
-    requires { Reaching words.now count top reach.old }
-    ensures { Swept words.now count top reach.new }
-{
-    let mut down = false;
-    loop {
-        if !sweep(words, count, top, down, reach) {
-            return;
-        }
-        down = !down;
-    }
 }
 
 // The period below which a pair lets no split work.
@@ -97,278 +51,225 @@ fn asked(p: Pair, reach: &[u32]) -> u32
     requires { p.launch < length reach.now }
     ensures { result ≡ min (reach_of reach.now p.launch) p.greatest }
 {
-    smaller(reach[p.launch as usize], p.greatest)
+    reach[p.launch as usize].min(p.greatest)
 }
 
-// The longest such period, or 1.
-fn period(words: &[u32], count: usize, reach: &[u32]) -> u32
-    requires { UsableList words.now (length reach.now) count }
-    ensures { result ≡ reach_period 1 (pairs words.now) reach.now }
-{
-    let mut most = 1;
-    let mut k = 0;
-    while k < count {
-        let p = delay_list::pair_at(words, k);
-        most = larger(most, asked(p, reach));
-        k += 1;
+// What came of a raise along a pair: the register that was raised, if it was, and the period that the pair asks for.
+#[derive(Clone, Copy)]
+struct Along {
+    raised: Option<usize>,
+    asks: u32,
+}
+
+// A usable list with its count of pairs and its common period.
+#[derive(Clone, Copy)]
+struct Listed<'a> {
+    words: &'a [u32],
+    count: usize,
+    top: u32,
+}
+
+impl<'a> Listed<'a> {
+    // Both ends of pair k; whether one was raised.
+    fn step(self, k: usize, reach: &mut [u32]) -> bool
+        requires { Reaching self.words.now self.count self.top reach.old × (k < self.count) }
+        ensures { ReachStep self.entry.top (pairs self.entry.words.now) (ClosedAt self.entry.words.now self.entry.top k) reach.old reach.new result }
+    {
+        let p = delay_list::pair_at(self.words, k);
+        let first = raise_capture(p, self.top, reach);
+        let second = raise_launch(p, self.top, reach);
+        first | second
     }
-    most
-}
 
-// Every register has at least the reach v, below which no split works.
-fn lift(words: &[u32], count: usize, top: u32, v: u32, reach: &mut [u32])
-    requires { Reaching words.now count top reach.old × NoneBelow top (pairs words.now) v }
-    ensures { Reaching words.now count top reach.new }
-{
-    let mut r = 0;
-    while r < reach.len() {
-        raise(reach, r, v);
-        r += 1;
+    // One sweep, up or down the list; whether it raised anything.
+    fn sweep(self, down: bool, reach: &mut [u32]) -> bool
+        requires { Reaching self.words.now self.count self.top reach.old }
+        ensures { ReachStep self.entry.top (pairs self.entry.words.now) (ClosedAll self.entry.words.now self.entry.top) reach.old reach.new result }
+    {
+        let mut moved = false;
+        for i in 0..self.count {
+            let k = delay_list::place(self.count, i, down);
+            let o = self.step(k, reach);
+            moved |= o;
+        }
+        moved
+    }
+
+    // Sweeps up and down the list until nothing is raised.
+    fn settle(self, reach: &mut [u32])
+        requires { Reaching self.words.now self.count self.top reach.old }
+        ensures { Swept self.entry.words.now self.entry.count self.entry.top reach.new }
+    {
+        let mut down = false;
+        while self.sweep(down, reach) {
+            down = !down;
+        }
+    }
+
+    // The longest period that a pair asks for, or 1.
+    fn period(self, reach: &[u32]) -> u32
+        requires { UsableList self.words.now (length reach.now) self.count }
+        ensures { result ≡ reach_period 1 (pairs self.entry.words.now) reach.now }
+    {
+        let mut most = 1;
+        for k in 0..self.count {
+            let p = delay_list::pair_at(self.words, k);
+            most = most.max(asked(p, reach));
+        }
+        most
+    }
+
+    // Every register has at least the reach v, below which no split works.
+    fn lift(self, v: u32, reach: &mut [u32])
+        requires { Reaching self.words.now self.count self.top reach.old × NoneBelow self.top (pairs self.words.now) v }
+        ensures { Reaching self.entry.words.now self.entry.count self.entry.top reach.new }
+    {
+        for r in 0..reach.len() {
+            raise(reach, r, v);
+        }
+    }
+
+    // From an end of pair k the register at the other end is raised.
+    fn cross(self, k: usize, launch: bool, reach: &mut [u32]) -> Along
+        requires { Reaching self.words.now self.count self.top reach.old × (k < self.count) }
+        ensures { Guided self.entry.words.now self.entry.count self.entry.top reach.new result.asks }
+    {
+        let p = delay_list::pair_at(self.words, k);
+        if launch {
+            let raised = raise_capture(p, self.top, reach);
+            let asks = asked(p, reach);
+            return Along {
+                raised: raised.then_some(p.capture as usize),
+                asks,
+            };
+        }
+        let raised = raise_launch(p, self.top, reach);
+        Along {
+            raised: raised.then_some(p.launch as usize),
+            asks: 0,
+        }
+    }
+
+    // Every capture is raised; the longest period that a pair was seen to ask for.
+    fn begin(self, reach: &mut [u32]) -> u32
+        requires { Reaching self.words.now self.count self.top reach.old }
+        ensures { Guided self.entry.words.now self.entry.count self.entry.top reach.new result }
+    {
+        let mut most = 0;
+        for k in 0..self.count {
+            let a = self.cross(k, true, reach);
+            most = most.max(a.asks);
+        }
+        most
     }
 }
 
 // The guide raises reaches in the order of a heap, the largest first. Its order is a hint, by which the sweeps find nothing left
 // to raise; each stays a reach.
 
-// What came of a raise along a pair: the register, whether it was raised, and the period that the pair asks for.
-#[derive(Clone, Copy)]
-pub struct Along {
-    pub register: usize,
-    pub raised: bool,
-    pub asks: u32,
-}
-
-// The longest period that a pair was seen to ask for, and how many registers are in the heap.
-#[derive(Clone, Copy)]
-pub struct Waiting {
-    pub most: u32,
-    pub size: usize,
-}
-
-// The capture of pair k is raised.
-fn go_ahead(words: &[u32], count: usize, k: usize, top: u32, reach: &mut [u32]) -> Along
-    requires { Reaching words.now count top reach.old × (k < count) }
-    ensures { Guided words.now count top reach.new result.asks }
-{
-    let p = delay_list::pair_at(words, k);
-    let raised = raise_capture(p, top, reach);
-    let asks = asked(p, reach);
-    Along {
-        register: p.capture as usize,
-        raised: raised,
-        asks: asks,
-    }
-}
-
-// The launch of pair k is raised.
-fn go_back(words: &[u32], count: usize, k: usize, top: u32, reach: &mut [u32]) -> Along
-    requires { Reaching words.now count top reach.old × (k < count) }
-    ensures { Guided words.now count top reach.new result.asks }
-{
-    let p = delay_list::pair_at(words, k);
-    let raised = raise_launch(p, top, reach);
-    Along {
-        register: p.launch as usize,
-        raised: raised,
-        asks: 0,
-    }
-}
-
-// From one end of pair k to the other.
-fn cross(words: &[u32], count: usize, k: usize, launch: bool, top: u32, reach: &mut [u32]) -> Along
-    requires { Reaching words.now count top reach.old × (k < count) }
-    ensures { Guided words.now count top reach.new result.asks }
-{
-    if launch {
-        go_ahead(words, count, k, top, reach)
-    } else {
-        go_back(words, count, k, top, reach)
-    }
-}
-
-// Every capture is raised; the longest period that a pair was seen to ask for.
-fn begin(words: &[u32], count: usize, top: u32, reach: &mut [u32]) -> u32
-    requires { Reaching words.now count top reach.old }
-    ensures { Guided words.now count top reach.new result }
-{
-    let mut most = 0;
-    let mut k = 0;
-    while k < count {
-        let a = go_ahead(words, count, k, top, reach);
-        most = larger(most, a.asks);
-        k += 1;
-    }
-    most
-}
-
-// Register r, if its reach is above the longest period seen, goes in the heap. The new size.
-fn join(
+// The longest period that a pair was seen to ask for, and the registers that wait to be visited.
+#[derive(Drop)]
+struct Waiting {
     most: u32,
-    reach: &[u32],
-    line: &mut [u16; REGISTERS],
-    place: &mut [u16; REGISTERS],
-    size: usize,
-    r: usize,
-) -> usize {
-    if r >= reach.len() {
-        return size;
-    }
-    if reach[r] <= most {
-        return size;
-    }
-    register_heap::put(reach, line, place, size, r)
+    heap: Heap,
 }
 
-// What the pair asks for is seen, and a register that was raised joins the heap.
-fn enter(
-    a: Along,
-    w: Waiting,
-    reach: &[u32],
-    line: &mut [u16; REGISTERS],
-    place: &mut [u16; REGISTERS],
-) -> Waiting
-    ensures { result.most ≡ max w.most a.asks }
-{
-    let mut next = w;
-    next.most = larger(w.most, a.asks);
-    if a.raised {
-        next.size = join(next.most, reach, line, place, w.size, a.register);
-    }
-    next
-}
-
-// The heap of the registers with a reach above the longest period seen. Its size.
-fn gather(
-    most: u32,
-    reach: &[u32],
-    line: &mut [u16; REGISTERS],
-    place: &mut [u16; REGISTERS],
-) -> usize {
-    let mut size = 0;
-    let mut r = 0;
-    while r < reach.len() {
-        if reach[r] > most {
-            size = register_heap::put(reach, line, place, size, r);
+impl Waiting {
+    // Register r, if its reach is above the longest period seen, goes in the heap.
+    fn join(&mut self, reach: &[u32], r: usize)
+        ensures { self.new.most ≡ self.old.most }
+    {
+        if r < reach.len() && reach[r] > self.most {
+            self.heap.put(reach, r);
         }
-        r += 1;
     }
-    size
-}
 
-// Along the ends at register r, from each to the register across.
-fn visit(
-    words: &[u32],
-    count: usize,
-    top: u32,
-    r: usize,
-    lasts: &[u16; REGISTERS],
-    before: &[u16],
-    w: Waiting,
-    reach: &mut [u32],
-    line: &mut [u16; REGISTERS],
-    place: &mut [u16; REGISTERS],
-) -> Waiting
-    requires { Guided words.now count top reach.old w.most }
-    ensures { Guided words.now count top reach.new result.most }
-{
-    let mut now = w;
-    let mut end = pair_ends::last_at(lasts, r);
-    while end > 0 {
-        let k = (end - 1) / 2;
-        if k >= count {
-            return now;
+    // What the pair asks for is seen, and a register that was raised joins the heap.
+    fn enter(&mut self, a: Along, reach: &[u32])
+        ensures { self.new.most ≡ max self.old.most a.asks }
+    {
+        self.most = self.most.max(a.asks);
+        if let Some(r) = a.raised {
+            self.join(reach, r);
         }
-        let a = cross(words, count, k, end % 2 == 1, top, reach);
-        now = enter(a, now, reach, line, place);
-        end = pair_ends::end_before(before, end);
     }
-    now
-}
 
-// The register in the heap with the largest reach, if that is above the period seen; else REGISTERS.
-fn largest(w: Waiting, reach: &[u32], line: &[u16; REGISTERS]) -> usize {
-    if w.size == 0 {
-        return REGISTERS;
-    }
-    let r = register_heap::register_at(line, 0);
-    if r >= reach.len() {
-        return REGISTERS;
-    }
-    if reach[r] <= w.most {
-        return REGISTERS;
-    }
-    r
-}
-
-// Registers are taken from the heap and visited, each once: no raise is to above the reach of the one that was taken.
-fn follow(
-    words: &[u32],
-    count: usize,
-    top: u32,
-    lasts: &[u16; REGISTERS],
-    before: &[u16],
-    w: Waiting,
-    reach: &mut [u32],
-    line: &mut [u16; REGISTERS],
-    place: &mut [u16; REGISTERS],
-) -> u32
-    requires { Guided words.now count top reach.old w.most }
-    ensures { Guided words.now count top reach.new result }
-{
-    let mut now = w;
-    let mut left = reach.len();
-    while left > 0 {
-        left -= 1;
-        let r = largest(now, reach, line);
-        if r >= REGISTERS {
-            return now.most;
+    // The registers with a reach above the longest period seen go in the heap.
+    fn gather(&mut self, reach: &[u32])
+        ensures { self.new.most ≡ self.old.most }
+    {
+        for r in 0..reach.len() {
+            self.join(reach, r);
         }
-        now.size = register_heap::remove(reach, line, place, now.size, r);
-        now = visit(words, count, top, r, lasts, before, now, reach, line, place);
     }
-    now.most
+
+    // Along the ends at register r, from each to the register across.
+    fn visit(&mut self, list: Listed, ends: Ends, r: usize, reach: &mut [u32])
+        requires { Guided list.words.now list.count list.top reach.old self.old.most }
+        ensures { Guided list.entry.words.now list.entry.count list.entry.top reach.new self.new.most }
+    {
+        for end in ends.at(r) {
+            let k = usize::from(end) / 2;
+            if k >= list.count {
+                return;
+            }
+            let a = list.cross(k, end % 2 == 0, reach);
+            self.enter(a, reach);
+        }
+    }
+
+    // The register in the heap with the largest reach, if that is above the period seen.
+    fn largest(&self, reach: &[u32]) -> Option<usize> {
+        let r = self.heap.largest()?;
+        if r < reach.len() && reach[r] > self.most {
+            return Some(r);
+        }
+        None
+    }
+
+    // Registers are taken from the heap and visited, each once: no raise is to above the reach of the one that was taken.
+    fn follow(&mut self, list: Listed, ends: Ends, reach: &mut [u32])
+        requires { Guided list.words.now list.count list.top reach.old self.old.most }
+        ensures { Guided list.entry.words.now list.entry.count list.entry.top reach.new self.new.most }
+    {
+        for _ in 0..reach.len() {
+            let Some(r) = self.largest(reach) else {
+                return;
+            };
+            self.heap.remove(reach, r);
+            self.visit(list, ends, r, reach);
+        }
+    }
 }
 
 // With no more pairs than this part of the registers, sweeps take less time than a guide, which looks at every register.
 const SPARSE: usize = 8;
 
 // The heap from its filling until nothing in it is above the period seen; none where pairs are few.
-fn guide(
-    words: &[u32],
-    count: usize,
-    top: u32,
-    reach: &mut [u32],
-    lasts: &[u16; REGISTERS],
-    before: &[u16],
-) -> u32
-    requires { Reaching words.now count top reach.old }
-    ensures { Guided words.now count top reach.new result }
+fn guide(list: Listed, ends: Ends, reach: &mut [u32]) -> u32
+    requires { Reaching list.words.now list.count list.top reach.old }
+    ensures { Guided list.entry.words.now list.entry.count list.entry.top reach.new result }
 {
-    if count <= reach.len() / SPARSE {
+    if list.count <= reach.len() / SPARSE {
         return 0;
     }
-    let mut line = [0u16; REGISTERS];
-    let mut place = [0u16; REGISTERS];
-    let most = begin(words, count, top, reach);
-    let size = gather(most, reach, &mut line, &mut place);
-    let w = Waiting {
-        most: most,
-        size: size,
+    let mut waiting = Waiting {
+        most: list.begin(reach),
+        heap: Heap::empty(),
     };
-    follow(
-        words, count, top, lasts, before, w, reach, &mut line, &mut place,
-    )
+    waiting.gather(reach);
+    waiting.follow(list, ends, reach);
+    waiting.most
 }
 
 // The two-timing period of a usable list with the common period `top` and a free period above `floor`; the reaches are left
-// in the n places lent. `lasts` and `before` are the ends of the pairs at each register, as a hint.
+// in the n places lent. The ends of the pairs are a hint.
 pub fn two_period(
     words: &[u32],
     count: usize,
     top: u32,
     floor: u32,
-    lasts: &[u16; REGISTERS],
-    before: &[u16],
+    ends: Ends,
     reach: &mut [u32],
 ) -> u32
     requires { UsableList words.now (length reach.old) count × (top ≡ common (pairs words.now)) × Bound (pairs words.now) (floor + 1) }
@@ -376,10 +277,11 @@ pub fn two_period(
 {
     let n = reach.len();
     buffers::level(reach, n, floor);
-    let most = guide(words, count, top, reach, lasts, before);
-    lift(words, count, top, most, reach);
-    settle(words, count, top, reach);
-    period(words, count, reach)
+    let list = Listed { words, count, top };
+    let most = guide(list, ends, reach);
+    list.lift(most, reach);
+    list.settle(reach);
+    list.period(reach)
 }
 
 // The offset where the reach is above the period, else 0.
@@ -393,9 +295,7 @@ fn time_of(offset: u32, two: u32, reach: u32) -> u32
 pub fn write_split(reach: &mut [u32], two: u32, offset: u32)
     ensures { reach.new ≡ timings offset (late_above two reach.old) }
 {
-    let mut i = 0;
-    while i < reach.len() {
+    for i in 0..reach.len() {
         reach[i] = time_of(offset, two, reach[i]);
-        i += 1;
     }
 }

@@ -8,7 +8,7 @@ ghost use Rattle.list_format.specs.Lists.{registers, pair_count, need_words, nee
 ghost use Rattle.list_format.specs.Read.{four_of, numbers_of};
 ghost use Rattle.list_format.specs.RoundTrip.{ReadAs};
 
-use delay_list::Reader;
+use delay_list::{Layout, Reader};
 use list_format::Counts;
 use refusals::{Refusal, Refused, check};
 use timing::Pair;
@@ -51,10 +51,10 @@ fn fill_needs(words: &[u32], n: u32, at: usize, answer: &mut [u32])
         × ((need_words words.now < length words.now) × (at + 2 * n ≤ length answer.old)) }
     ensures { answer.new ≡ over (take at answer.old ++ needs_of words.now) answer.old }
 {
-    let needs = delay_list::need_count(words);
+    let layout = Layout::of(words);
     for r in 0..n {
-        let hold = delay_list::hold_at(words, needs, r);
-        let setup = delay_list::setup_at(words, needs, r);
+        let hold = layout.hold(r);
+        let setup = layout.setup(r);
         put_needs(answer, at + 2 * r as usize, hold, setup);
     }
 }

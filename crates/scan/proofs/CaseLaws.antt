@@ -4,11 +4,14 @@ use mathlib.Core.Bool.{Bool, true, false, not, ◌&&◌}
 use mathlib.Core.List.{List}
 use mathlib.Core.Path.{◌≡◌, refl}
 use lib.Dec.{eqb}
+use Rattle.std.specs.Prelude.{Option, None, Some, is_some}
 use lib.ListN.{set}
 use borrow.Author.Tests.{not-true, not-false, lt-ltb, le-ltb, eq-eqb, ne_eqb}
 use Rattle.text_pieces.specs.Pieces.{zero_byte, nine_byte, newline}
 use Rattle.scan.specs.declared.State.{State}
-use Rattle.scan.specs.Scan.{max_numbers, max_value, is_blank, comment_byte, failed, valued, with_digit, is_second, outside, number_ended, line_fault}
+use Rattle.scan.specs.declared.TextFault.{TextFault}
+use Rattle.scan.specs.declared.TextFault.TheVariants.{BadByte, LargeNumber, BadFirstLine, BadLine, TooManyNumbers, NoNumber, OtherPairs}
+use Rattle.scan.specs.Scan.{max_numbers, max_value, is_blank, comment_byte, with_fault, failed, valued, with_digit, is_second, outside, number_ended, line_fault}
 use Rattle.scan.specs.Scan.{need_line, needs_then, next_line, line_ended, commented, step_in_line, step, end_fault, at_end, finished, kept_in}
 
 -- ---- the end of a line of a list
@@ -49,42 +52,42 @@ module _ (lined : Bool) (first needs count : ℕ) where
 
   -- ---- what is wrong
 
-  pub not-lined : not lined ≡ true → 0 ≡ line_fault lined first needs count
+  pub not-lined : not lined ≡ true → None ≡ line_fault lined first needs count
   unfolding line_fault
   not-lined e = rw (not-true lined e)
 
   module _ (e : not lined ≡ false) where
-    pub blank-line : count ≡ first → 0 ≡ line_fault lined first needs count
+    pub blank-line : count ≡ first → None ≡ line_fault lined first needs count
     unfolding line_fault
     blank-line h = rw (not-false lined e, eq-eqb count first h)
 
     module _ (some : count ≡ first → ⊥) where
-      pub first-line : first ≡ 0 → count ≡ 1 → 0 ≡ line_fault lined first needs count
+      pub first-line : first ≡ 0 → count ≡ 1 → None ≡ line_fault lined first needs count
       unfolding line_fault
       first-line z h = rw (not-false lined e, ne_eqb count first some, eq-eqb first 0 z, eq-eqb count 1 h)
 
-      pub bad-first : first ≡ 0 → (count ≡ 1 → ⊥) → 3 ≡ line_fault lined first needs count
+      pub bad-first : first ≡ 0 → (count ≡ 1 → ⊥) → Some BadFirstLine ≡ line_fault lined first needs count
       unfolding line_fault
       bad-first z h = rw (not-false lined e, ne_eqb count first some, eq-eqb first 0 z, ne_eqb count 1 h)
 
       module _ (later : first ≡ 0 → ⊥) where
-        pub pair_line_lem : count ≡ first + 4 → 0 ≡ line_fault lined first needs count
+        pub pair_line_lem : count ≡ first + 4 → None ≡ line_fault lined first needs count
         unfolding line_fault
         pair_line_lem h = rw (not-false lined e, ne_eqb count first some, ne_eqb first 0 later, eq-eqb count (first + 4) h)
 
         module _ (other : count ≡ first + 4 → ⊥) where
-          pub need-line : need_line lined first needs count ≡ true → 0 ≡ line_fault lined first needs count
+          pub need-line : need_line lined first needs count ≡ true → None ≡ line_fault lined first needs count
           unfolding line_fault
           need-line h = rw (h, not-false lined e, ne_eqb count first some, ne_eqb first 0 later, ne_eqb count (first + 4) other)
 
-          pub bad-line : need_line lined first needs count ≡ false → 4 ≡ line_fault lined first needs count
+          pub bad-line : need_line lined first needs count ≡ false → Some BadLine ≡ line_fault lined first needs count
           unfolding line_fault
           bad-line h = rw (h, not-false lined e, ne_eqb count first some, ne_eqb first 0 later, ne_eqb count (first + 4) other)
 
 module _ (s : State) where
   -- ---- a number
 
-  pub digit-large : (d : ℕ) → max_value < 10 * s.value + d → failed s 2 ≡ with_digit s d
+  pub digit-large : (d : ℕ) → max_value < 10 * s.value + d → failed s LargeNumber ≡ with_digit s d
   unfolding with_digit
   digit-large d h = rw (lt-ltb max_value (10 * s.value + d) h)
 
@@ -102,7 +105,7 @@ module _ (s : State) where
     ended-second h = rw (not-false s.inside e, h)
 
     module _ (other : is_second s ≡ false) where
-      pub ended-full : max_numbers ≤ s.count → failed s 5 ≡ number_ended s
+      pub ended-full : max_numbers ≤ s.count → failed s TooManyNumbers ≡ number_ended s
       unfolding number_ended is_second
       ended-full h = rw (not-false s.inside e, other, le-ltb s.count max_numbers h)
 
@@ -112,18 +115,18 @@ module _ (s : State) where
 
   -- ---- a line
 
-  pub line_stays : (s.fault ≡ 0 → ⊥) → s ≡ line_ended s
+  pub line_stays : is_some s.fault ≡ true → s ≡ line_ended s
   unfolding line_ended
-  line_stays h = rw (ne_eqb s.fault 0 h)
+  line_stays h = rw (h)
 
-  module _ {wrong : ℕ} (ok : s.fault ≡ 0) (e : wrong ≡ line_fault s.lined s.first s.needs s.count) where
-    pub line-fails : (wrong ≡ 0 → ⊥) → failed s wrong ≡ line_ended s
+  module _ {wrong : Option TextFault} (ok : is_some s.fault ≡ false) (e : wrong ≡ line_fault s.lined s.first s.needs s.count) where
+    pub line-fails : {fault : TextFault} → wrong ≡ Some fault → failed s fault ≡ line_ended s
     unfolding line_ended
-    line-fails h = rw (eq-eqb s.fault 0 ok, ← e, ne_eqb wrong 0 h)
+    line-fails h = rw (ok, ← e, h)
 
-    pub line-next : wrong ≡ 0 → next_line s ≡ line_ended s
+    pub line-next : wrong ≡ None → next_line s ≡ line_ended s
     unfolding line_ended
-    line-next h = rw (eq-eqb s.fault 0 ok, ← e, eq-eqb wrong 0 h)
+    line-next h = rw (ok, ← e, h)
 
   -- ---- a byte in a line
 
@@ -138,11 +141,11 @@ module _ (s : State) where
       in-comment h = rw (a, eq-eqb byte comment_byte h)
 
       module _ (b : byte ≡ comment_byte → ⊥) where
-        pub in-low : byte < zero_byte → failed s 1 ≡ step_in_line s byte
+        pub in-low : byte < zero_byte → failed s BadByte ≡ step_in_line s byte
         unfolding step_in_line
         in-low h = rw (a, ne_eqb byte comment_byte b, lt-ltb byte zero_byte h)
 
-        pub in-high : zero_byte ≤ byte → nine_byte < byte → failed s 1 ≡ step_in_line s byte
+        pub in-high : zero_byte ≤ byte → nine_byte < byte → failed s BadByte ≡ step_in_line s byte
         unfolding step_in_line
         in-high h l = rw (a, ne_eqb byte comment_byte b, le-ltb byte zero_byte h, lt-ltb nine_byte byte l)
 
@@ -152,56 +155,56 @@ module _ (s : State) where
 
   -- ---- a byte
 
-  pub step_stays : (byte : ℕ) → (s.fault ≡ 0 → ⊥) → s ≡ step s byte
+  pub step_stays : (byte : ℕ) → is_some s.fault ≡ true → s ≡ step s byte
   unfolding step
-  step_stays byte h = rw (ne_eqb s.fault 0 h)
+  step_stays byte h = rw (h)
 
-  module _ (byte : ℕ) (ok : s.fault ≡ 0) where
+  module _ (byte : ℕ) (ok : is_some s.fault ≡ false) where
     pub step-newline : byte ≡ newline → line_ended (number_ended s) ≡ step s byte
     unfolding step
-    step-newline h = rw (eq-eqb s.fault 0 ok, eq-eqb byte newline h)
+    step-newline h = rw (ok, eq-eqb byte newline h)
 
     module _ (a : byte ≡ newline → ⊥) where
       pub step-comment : s.comment ≡ true → s ≡ step s byte
       unfolding step
-      step-comment h = rw (eq-eqb s.fault 0 ok, ne_eqb byte newline a, h)
+      step-comment h = rw (ok, ne_eqb byte newline a, h)
 
       pub step_line : s.comment ≡ false → step_in_line s byte ≡ step s byte
       unfolding step
-      step_line h = rw (eq-eqb s.fault 0 ok, ne_eqb byte newline a, h)
+      step_line h = rw (ok, ne_eqb byte newline a, h)
 
   -- ---- the end
 
-  pub end_none : s.count ≡ 0 → 6 ≡ end_fault s
+  pub end_none : s.count ≡ 0 → Some NoNumber ≡ end_fault s
   unfolding end_fault
   end_none h = rw (eq-eqb s.count 0 h)
 
   module _ (some : s.count ≡ 0 → ⊥) where
-    pub end-silent : s.promised ≡ 0 → 0 ≡ end_fault s
+    pub end-silent : s.promised ≡ 0 → None ≡ end_fault s
     unfolding end_fault
     end-silent h = rw (ne_eqb s.count 0 some, eq-eqb s.promised 0 h)
 
     module _ (told : s.promised ≡ 0 → ⊥) where
-      pub end_kept : s.count - s.needs ≡ s.promised → 0 ≡ end_fault s
+      pub end_kept : s.count - s.needs ≡ s.promised → None ≡ end_fault s
       unfolding end_fault
       end_kept h = rw (ne_eqb s.count 0 some, ne_eqb s.promised 0 told, eq-eqb (s.count - s.needs) s.promised h)
 
-      pub end-broken : (s.count - s.needs ≡ s.promised → ⊥) → 8 ≡ end_fault s
+      pub end-broken : (s.count - s.needs ≡ s.promised → ⊥) → Some OtherPairs ≡ end_fault s
       unfolding end_fault
       end-broken h = rw (ne_eqb s.count 0 some, ne_eqb s.promised 0 told, ne_eqb (s.count - s.needs) s.promised h)
 
-  pub finish-stays : (s.fault ≡ 0 → ⊥) → s ≡ finished s
+  pub finish-stays : is_some s.fault ≡ true → s ≡ finished s
   unfolding finished
-  finish-stays h = rw (ne_eqb s.fault 0 h)
+  finish-stays h = rw (h)
 
-  module _ {last : State} (ok : s.fault ≡ 0) (e : last ≡ line_ended (number_ended s)) where
-    pub finish-faulty : (last.fault ≡ 0 → ⊥) → last ≡ finished s
+  module _ {last : State} (ok : is_some s.fault ≡ false) (e : last ≡ line_ended (number_ended s)) where
+    pub finish-faulty : is_some last.fault ≡ true → last ≡ finished s
     unfolding finished at_end
-    finish-faulty h = rw (eq-eqb s.fault 0 ok, ← e, ne_eqb last.fault 0 h)
+    finish-faulty h = rw (ok, ← e, h)
 
-    pub finish-ends : {wrong : ℕ} → last.fault ≡ 0 → wrong ≡ end_fault last → failed last wrong ≡ finished s
+    pub finish-ends : {wrong : Option TextFault} → is_some last.fault ≡ false → wrong ≡ end_fault last → with_fault last wrong ≡ finished s
     unfolding finished at_end
-    finish-ends h w = rw (eq-eqb s.fault 0 ok, ← e, eq-eqb last.fault 0 h, w)
+    finish-ends h w = rw (ok, ← e, h, w)
 
 -- ---- the places
 

@@ -1,5 +1,5 @@
 -- Where a byte stands, and how far reading goes: the loops over the bytes before it, as the invariants `Placing` and `Going`.
-use Prim.Native.Nat.{ℕ, zero, suc, ◌+◌, ◌≤◌, ◌<◌}
+use Prim.Native.Nat.{ℕ, suc, ◌+◌, ◌≤◌, ◌<◌}
 use mathlib.Core.Bool.{Bool, true, false, cond}
 use mathlib.Core.List.{List, [], ◌∷◌, ◌++◌}
 use mathlib.Core.Path.{◌≡◌, refl}
@@ -98,16 +98,9 @@ module _ {enough : ℕ} {lined : Bool} {ts : List ℕ} where
           let here : goes_to enough s (drop i ts) ≡ suc (goes_to enough t (drop (i + 1) ts)) = rw (left, ← e, h) in
           record { bound = omega arith; within = rw e (step_in s (get_or ts i 0) w.within); whole = omega (arith, w.whole, here) }
 
-    pub going_end : length ts ≤ i → GoesTo enough lined ts i
+    pub going_end : length ts ≤ i → GoesTo enough lined ts (length ts)
     unfolding goes_to
     going_end h =
         let none : drop i ts ≡ [] = drop_of_length-le ts {i = i} h in
         let here : goes_to enough s (drop i ts) ≡ 0 = rw none in
-        record { index = omega (arith, w.whole, here); bound = w.bound }
-
--- ---- a byte, or the end
-
-pub byte-there : (ts : List ℕ) (i : ℕ) → i < length ts → get_or ts i 0 ≡ get_or ts i 256
-byte-there [] i h = absurd (omega arith)
-byte-there (b ∷ ts) zero h = refl
-byte-there (b ∷ ts) (suc i) h = byte-there ts i (omega arith)
+        record { index = omega (arith, w.whole, here, w.bound); bound = omega arith }

@@ -5,6 +5,7 @@ use mathlib.Core.List.{List, [], ◌∷◌, ◌++◌, append-nil}
 use mathlib.Core.Path.{◌≡◌, refl, sym, ◌∙◌, ap}
 use native.Mathlib.Omega.{arith}
 use lib.Dec.{ltb}
+use Rattle.std.specs.Prelude.{None}
 use borrow.Author.Tests.{ltb-true, ltb-false, lt-ltb, le-ltb, ne_eqb}
 use Rattle.text_pieces.specs.Pieces.{zero_byte, digit, decimal, number, space, newline}
 use Rattle.text_pieces.proofs.DecimalLaws.{decimal-one, decimal-more}
@@ -47,7 +48,7 @@ on lined first needs count promised inside v =
       inside = inside;
       value = v;
       comment = false;
-      fault = 0;
+      fault = None;
     }
 
 -- between two numbers
@@ -128,7 +129,7 @@ module _ (lined : Bool) (first needs count promised : ℕ) where
           then-byte n space l (sym (ends ∙ in-blank s space refl ∙ step_line s space refl (λ z. omega arith) refl)) (kept_next s t (omega arith))
 
       -- a number and the end of a line
-      pub reads-newline : {then : ℕ} → 0 ≡ line_fault lined first needs (count + 1) → then ≡ needs_then lined first needs (count + 1)
+      pub reads-newline : {then : ℕ} → None ≡ line_fault lined first needs (count + 1) → then ≡ needs_then lined first needs (count + 1)
           → Reads (at lined first needs count promised) (number n newline) (n ∷ []) (at lined (count + 1) then (count + 1) promised)
       reads-newline {then} fit e =
           let s = within lined first needs count promised n in

@@ -1,20 +1,23 @@
 -- Reading a text byte by byte: the state and the places after each, as the invariant `Scanning` of the loop, and what the whole
 -- text comes to.
 use Prim.Native.Nat.{ℕ, ◌+◌, ◌-◌, ◌≤◌, ◌<◌}
-use mathlib.Core.Bool.{Bool, true, false, cond, ◌&&◌}
+use mathlib.Core.Bool.{Bool, true, false, cond, ◌&&◌, true≢false}
 use mathlib.Core.List.{List, [], ◌∷◌, ◌++◌, append_assoc, append-nil}
-use mathlib.Core.Path.{◌≡◌, refl, ap}
+use mathlib.Core.Path.{◌≡◌, refl, sym, ap, ◌∙◌}
 use native.Mathlib.Numerals.{add-one}
 use native.Mathlib.Omega.{arith}
 use lib.Dec.{ltb, eqb}
+use Rattle.std.specs.Prelude.{None, Some, is_some, Ok, Err}
 use lib.ListN.{length, take, drop, get_or, set, length-append, length-drop, get_or-eq_default}
 use lib.Seq.{take-suc, take-length, take_all}
-use borrow.Author.Tests.{ltb-true, ltb-false, lt-ltb, le-ltb, eq-eqb, ne_eqb, eqb-true, eqb-false}
+use borrow.Author.Tests.{ltb-true, ltb-false, lt-ltb, le-ltb, eqb-true, eqb-false}
 use Rattle.buffers.specs.Over.{over}
 use Rattle.buffers.proofs.FillLaws.{Filled, filled_none, filled_put, filled-size, set-put}
 use Rattle.scan.specs.declared.State.{State}
-use Rattle.scan.specs.declared.Scanned.{Scanned}
-use Rattle.scan.specs.declared.Scanned.TheVariants.{Numbers}
+use Rattle.scan.specs.declared.FaultAt.{FaultAt}
+use Rattle.scan.specs.declared.TextFault.{TextFault}
+use Rattle.scan.specs.declared.TextFault.TheVariants.{BadByte, TooLong}
+use Rattle.scan.specs.Scan.{Scanned, with_fault, numbers_of, result_with}
 use Rattle.scan.specs.Scan.{max_numbers, text_bytes, is_blank, start, failed, number_ended, line_ended, step_in_line, step, end_fault, at_end, finished}
 use Rattle.scan.specs.Scan.{kept, kept_in, after, ended, last, scanned_numbers, fault_index, faulty_at, mark_size, without_mark, scanned, stored_of}
 use Rattle.scan.specs.Scan.{TextAs, ScanAs, StateIn, ScannedTo}
@@ -125,24 +128,24 @@ module _ {lined : Bool} {bs was : List ℕ} where
 -- ---- the whole text
 
 -- a text that ends well holds a number
-end-some : (s : State) → (at_end s).fault ≡ 0 → 0 < (at_end s).count
+end-some : (s : State) → is_some (at_end s).fault ≡ false → 0 < (at_end s).count
 unfolding at_end
-end-some s = go (eqb s.fault 0) refl (eqb s.count 0) refl
+end-some s = go (is_some s.fault) refl (eqb s.count 0) refl
   where
-    go : (b : Bool) → eqb s.fault 0 ≡ b → (b' : Bool) → eqb s.count 0 ≡ b'
-        → (cond b (failed s (end_fault s)) s).fault ≡ 0 → 0 < (cond b (failed s (end_fault s)) s).count
-    go true e true e' h = absurd (omega (arith, end_none s (eqb-true s.count 0 e')))
-    go true e false e' h = omega (arith, eqb-false s.count 0 e')
-    go false e b' e' h = absurd (eqb-false s.fault 0 e h)
+    go : (b : Bool) → is_some s.fault ≡ b → (b' : Bool) → eqb s.count 0 ≡ b'
+        → is_some (cond b s (with_fault s (end_fault s))).fault ≡ false → 0 < (cond b s (with_fault s (end_fault s))).count
+    go true e b' e' h = absurd (true≢false (sym e ∙ h))
+    go false e true e' h = absurd (true≢false (rw (← end_none s (eqb-true s.count 0 e')) at h))
+    go false e false e' h = omega (arith, eqb-false s.count 0 e')
 
-finish-some : (s : State) → (finished s).fault ≡ 0 → 0 < (finished s).count
+finish-some : (s : State) → is_some (finished s).fault ≡ false → 0 < (finished s).count
 unfolding finished
-finish-some s = go (eqb s.fault 0) refl
+finish-some s = go (is_some s.fault) refl
   where
-    go : (b : Bool) → eqb s.fault 0 ≡ b → (cond b (at_end (line_ended (number_ended s))) s).fault ≡ 0
-        → 0 < (cond b (at_end (line_ended (number_ended s))) s).count
-    go true e h = end-some (line_ended (number_ended s)) h
-    go false e h = absurd (eqb-false s.fault 0 e h)
+    go : (b : Bool) → is_some s.fault ≡ b → is_some (cond b s (at_end (line_ended (number_ended s)))).fault ≡ false
+        → 0 < (cond b s (at_end (line_ended (number_ended s)))).count
+    go true e h = absurd (true≢false (sym e ∙ h))
+    go false e h = end-some (line_ended (number_ended s)) h
 
 module _ {lined : Bool} {ts was : List ℕ} {mid now : List ℕ} {s t : State} (room : max_numbers ≤ length was)
     (w : ScannedTo lined ts was mid s) (e : t ≡ finished s) (e' : now ≡ kept_in s t mid) where
@@ -166,25 +169,27 @@ module _ {lined : Bool} {ts was : List ℕ} {mid now : List ℕ} {s t : State} (
   stored : now ≡ over (scanned_numbers lined ts) was
   stored = rw all filled.is
 
-  pub text-faulty : {r : Scanned} {i : ℕ} → (t.fault ≡ 0 → ⊥) → i ≡ fault_index lined ts → r ≡ faulty_at t.fault ts i
-      → TextAs lined ts was now r
+  pub text-faulty : {f : FaultAt} {fault : TextFault} {i : ℕ} → t.fault ≡ Some fault → i ≡ fault_index lined ts → f ≡ faulty_at fault ts i
+      → TextAs lined ts was now (Err f)
+  unfolding result_with
   text-faulty wrong at a =
       record {
-        answer = rw (← here, ne_eqb t.fault 0 wrong, ← at) a;
+        answer = rw (← here, wrong, ← at, a);
         stored = stored;
-        counted = λ count needs told. (let z : ◌≡◌ {A = ℕ} 0 1 = cc in absurd (omega arith));
+        counted = λ n told. (let z : ◌≡◌ {A = ℕ} 0 1 = cc in absurd (omega arith));
       }
 
-  pub text-numbers : t.fault ≡ 0 → TextAs lined ts was now (Numbers t.count t.needs)
+  pub text-numbers : t.fault ≡ None → TextAs lined ts was now (Ok (numbers_of t))
+  unfolding result_with
   text-numbers ok =
       record {
-        answer = rw (← here, eq-eqb t.fault 0 ok);
+        answer = rw (← here, ok);
         stored = stored;
         counted =
-            λ count needs told. (let same : count ≡ t.count = cc in
-            let same' : needs ≡ t.needs = cc in
-            let some : 0 < t.count = rw e (finish-some s (rw e at ok)) in
-            rw (same, same') (record { size = size; some = omega (arith, moved.needs, moved.first); most = moved.most }));
+            λ n told. (let same : n ≡ numbers_of t = cc in
+            let none : is_some (finished s).fault ≡ false = rw (← e, ok) in
+            let some : 0 < t.count = rw e (finish-some s none) in
+            rw same (record { size = size; some = omega (arith, moved.needs, moved.first); most = moved.most }));
       }
 
 -- ---- the mark
@@ -199,9 +204,9 @@ no_third true true = refl
 no_third true false = refl
 no_third false b = refl
 
-pub mark-few : (bs : List ℕ) → length bs < 3 → mark_size bs ≡ 0
+pub mark_few : (bs : List ℕ) → length bs < 3 → mark_size bs ≡ 0
 unfolding mark_size mark_if
-mark-few bs h =
+mark_few bs h =
     let third : get_or bs 2 0 ≡ 0 = get_or-eq_default bs 0 (omega arith) in
     rw third (no_third (eqb (get_or bs 0 0) 239) (eqb (get_or bs 1 0) 187))
 
@@ -218,17 +223,17 @@ mark-fits bs = go (ltb (length bs) 3) refl
     most = three (eqb (get_or bs 0 0) 239 && (eqb (get_or bs 1 0) 187 && eqb (get_or bs 2 0) 191))
 
     go : (b : Bool) → ltb (length bs) 3 ≡ b → mark_size bs ≤ length bs
-    go true e = rw (mark-few bs (ltb-true (length bs) 3 e)) (omega arith)
+    go true e = rw (mark_few bs (ltb-true (length bs) 3 e)) (omega arith)
     go false e = omega (arith, ltb-false (length bs) 3 e, most)
 
 -- a fault stays
-pub after-stays : (s : State) (bs : List ℕ) → (s.fault ≡ 0 → ⊥) → after s bs ≡ s
+pub after-stays : (s : State) (bs : List ℕ) → is_some s.fault ≡ true → after s bs ≡ s
 unfolding after
 after-stays s [] h = refl
 after-stays s (b ∷ bs) h = rw (← step_stays s b h) (after-stays s bs h)
 
 -- a text that reads well from its first byte on has no mark
-pub no-mark : (lined : Bool) (bs : List ℕ) → (after (start lined) bs).fault ≡ 0 → mark_size bs ≡ 0
+pub no-mark : (lined : Bool) (bs : List ℕ) → (after (start lined) bs).fault ≡ None → mark_size bs ≡ 0
 unfolding after mark_size mark_if step step_in_line is_blank
 no-mark lined [] h = refl
 no-mark lined (b ∷ bs) h = go (eqb b 239) refl
@@ -236,9 +241,9 @@ no-mark lined (b ∷ bs) h = go (eqb b 239) refl
     go : (c : Bool) → eqb b 239 ≡ c → mark_if c (eqb (get_or bs 0 0) 187) (eqb (get_or bs 1 0) 191) ≡ 0
     go false e = refl
     go true e =
-        let first : step (start lined) b ≡ failed (start lined) 1 = rw (eqb-true b 239 e) in
-        let stays : after (step (start lined) b) bs ≡ failed (start lined) 1 = rw first (after-stays (failed (start lined) 1) bs (λ z. omega arith)) in
-        absurd (omega (arith, h, ap (λ (s : State). s.fault) stays))
+        let first : step (start lined) b ≡ failed (start lined) BadByte = rw (eqb-true b 239 e) in
+        let stays : after (step (start lined) b) bs ≡ failed (start lined) BadByte = rw first (after-stays (failed (start lined) BadByte) bs refl) in
+        absurd (true≢false (sym (ap (λ (s : State). is_some s.fault) stays) ∙ ap is_some h))
 
 -- ---- the whole text
 
@@ -250,14 +255,14 @@ pub lent-short : (bs : List ℕ) (from : ℕ) → length bs ≤ text_bytes → l
 lent-short bs from h = rw (lent_is bs from, length-drop) (omega arith)
 
 module _ {lined : Bool} {bs was : List ℕ} where
-  pub scan-long : {r : Scanned} → text_bytes < length bs → r ≡ faulty_at 7 bs text_bytes → ScanAs lined bs was was r
+  pub scan-long : {r : Scanned} → text_bytes < length bs → r ≡ Err (faulty_at TooLong bs text_bytes) → ScanAs lined bs was was r
   unfolding scanned stored_of
   scan-long h a =
       let long = lt-ltb text_bytes (length bs) h in
       record {
         answer = rw long a;
         stored = rw long;
-        counted = λ count needs e. (let z : ◌≡◌ {A = ℕ} 0 1 = cc in absurd (omega arith));
+        counted = λ n e. (let z : ◌≡◌ {A = ℕ} 0 1 = cc in absurd (omega arith));
       }
 
   pub scan-short : {now : List ℕ} {r : Scanned} {from : ℕ} → length bs ≤ text_bytes → from ≡ mark_size bs
@@ -267,4 +272,4 @@ module _ {lined : Bool} {bs was : List ℕ} where
       let short = le-ltb text_bytes (length bs) h in
       let text : take (length bs - from) (drop from bs) ≡ without_mark bs = rw (lent_is bs from, e) in
       let a : TextAs lined (without_mark bs) was now r = rw text at told in
-      record { answer = rw short a.answer; stored = rw short a.stored; counted = λ count needs c. rw short (a.counted count needs c) }
+      record { answer = rw short a.answer; stored = rw short a.stored; counted = λ n c. rw short (a.counted n c) }

@@ -4,10 +4,13 @@ use mathlib.Core.Bool.{Bool, true, false, cond, ◌&&◌}
 use mathlib.Core.Path.{◌≡◌, refl}
 use native.Mathlib.Omega.{arith}
 use lib.Dec.{ltb, eqb}
+use Rattle.std.specs.Prelude.{Option, Some, is_some}
 use borrow.Author.Tests.{ltb-true, eqb-true}
 use Rattle.text_pieces.specs.Pieces.{zero_byte, nine_byte, newline}
 use Rattle.scan.specs.declared.State.{State}
-use Rattle.scan.specs.Scan.{max_numbers, max_value, is_blank, comment_byte, failed, with_digit, is_second, outside, number_ended, line_fault}
+use Rattle.scan.specs.declared.TextFault.{TextFault}
+use Rattle.scan.specs.declared.TextFault.TheVariants.{BadByte, LargeNumber, TooManyNumbers}
+use Rattle.scan.specs.Scan.{max_numbers, max_value, is_blank, comment_byte, with_fault, failed, with_digit, is_second, outside, number_ended, line_fault}
 use Rattle.scan.specs.Scan.{need_line, needs_then, line_ended, commented, step_in_line, step, end_fault, at_end, finished, StateIn}
 
 -- at most k numbers further
@@ -49,7 +52,7 @@ module _ (s : State) (f : Fair s) where
   stay = record { low = omega arith; high = omega arith; needs = f.needs; first = f.first; most = f.most }
 
   -- what a move does not look at may change
-  failed-moves : (fault : ℕ) → Moves 0 s (failed s fault)
+  failed-moves : (fault : Option TextFault) → Moves 0 s (with_fault s fault)
   failed-moves fault = record { low = omega arith; high = omega arith; needs = f.needs; first = f.first; most = f.most }
 
   comment-moves : Moves 0 s (commented s)
@@ -58,7 +61,7 @@ module _ (s : State) (f : Fair s) where
   digit-moves : (d : ℕ) → Moves 0 s (with_digit s d)
   unfolding with_digit
   digit-moves d =
-      either (ltb max_value (10 * s.value + d)) (failed-moves 2)
+      either (ltb max_value (10 * s.value + d)) (failed-moves (Some LargeNumber))
       (record { low = omega arith; high = omega arith; needs = f.needs; first = f.first; most = f.most })
 
   pub ended-moves : Moves 1 s (number_ended s)
@@ -69,11 +72,11 @@ module _ (s : State) (f : Fair s) where
       (go (ltb s.count max_numbers) refl))
       (one stay)
     where
-      go : (b : Bool) → ltb s.count max_numbers ≡ b → Moves 1 s (cond b (outside s (s.count + 1) s.promised) (failed s 5))
+      go : (b : Bool) → ltb s.count max_numbers ≡ b → Moves 1 s (cond b (outside s (s.count + 1) s.promised) (failed s TooManyNumbers))
       go true e =
           let below = ltb-true s.count max_numbers e in
           record { low = omega arith; high = omega arith; needs = f.needs; first = omega (arith, f.first); most = omega arith }
-      go false e = one (failed-moves 5)
+      go false e = one (failed-moves (Some TooManyNumbers))
 
   -- a line of needs leaves one number beside them at least
   needs-few : needs_then s.lined s.first s.needs s.count ≤ s.count - 1
@@ -90,16 +93,14 @@ module _ (s : State) (f : Fair s) where
   line-moves : Moves 0 s (line_ended s)
   unfolding line_ended
   line-moves =
-      let wrong : ℕ = line_fault s.lined s.first s.needs s.count in
-      either (eqb s.fault 0)
-      (either (eqb wrong 0)
-      (record { low = omega arith; high = omega arith; needs = needs-few; first = omega arith; most = f.most })
-      (failed-moves wrong))
-      stay
+      let wrong : Option TextFault = line_fault s.lined s.first s.needs s.count in
+      either (is_some s.fault) stay
+      (either (is_some wrong) (failed-moves wrong)
+      (record { low = omega arith; high = omega arith; needs = needs-few; first = omega arith; most = f.most }))
 
 end-moves : (s : State) → Fair s → Moves 0 s (at_end s)
 unfolding at_end
-end-moves s f = either (eqb s.fault 0) (failed-moves s f (end_fault s)) (stay s f)
+end-moves s f = either (is_some s.fault) (stay s f) (failed-moves s f (end_fault s))
 
 module _ (s : State) (f : Fair s) where
   pub both-moves : Moves 1 s (line_ended (number_ended s))
@@ -108,7 +109,7 @@ module _ (s : State) (f : Fair s) where
   in-moves : (byte : ℕ) → Moves 1 s (step_in_line s byte)
   unfolding step_in_line
   in-moves byte =
-      let wrong : Moves 1 s (failed s 1) = one (failed-moves s f 1) in
+      let wrong : Moves 1 s (failed s BadByte) = one (failed-moves s f (Some BadByte)) in
       either (is_blank byte) (ended-moves s f)
       (either (eqb byte comment_byte) (then (ended-moves s f) (comment-moves (number_ended s) (fair (ended-moves s f))))
       (either (ltb byte zero_byte) wrong
@@ -118,15 +119,13 @@ module _ (s : State) (f : Fair s) where
   unfolding step
   step-moves byte =
       let same : Moves 1 s s = one (stay s f) in
-      either (eqb s.fault 0)
-      (either (eqb byte newline) both-moves (either s.comment same (in-moves byte)))
-      same
+      either (is_some s.fault) same (either (eqb byte newline) both-moves (either s.comment same (in-moves byte)))
 
   pub finish-moves : Moves 1 s (finished s)
   unfolding finished
   finish-moves =
       let ended = both-moves in
-      either (eqb s.fault 0) (then ended (end-moves (line_ended (number_ended s)) (fair ended))) (one (stay s f))
+      either (is_some s.fault) (one (stay s f)) (then ended (end-moves (line_ended (number_ended s)) (fair ended)))
 
 pub fair-in : {s : State} → StateIn s → Fair s
 fair-in i = record { needs = i.needs; first = i.first; most = i.count }

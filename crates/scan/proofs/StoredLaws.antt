@@ -9,9 +9,9 @@ use lib.ListN.{length, get_or, take}
 use borrow.Author.Tests.{ltb-false}
 use Rattle.buffers.specs.Over.{over}
 use Rattle.buffers.proofs.FillLaws.{filled-front, filled-fits}
-use Rattle.scan.specs.declared.Scanned.{Scanned}
-use Rattle.scan.specs.declared.Scanned.TheVariants.{Numbers}
-use Rattle.scan.specs.Scan.{text_bytes, stored_of, ScanAs}
+use Rattle.std.specs.Prelude.{Ok}
+use Rattle.scan.specs.declared.Numbers.{Numbers}
+use Rattle.scan.specs.Scan.{Scanned, text_bytes, stored_of, ScanAs}
 
 over-head : (xs was : List ℕ) → 0 < length xs → get_or (over xs was) 0 0 ≡ get_or xs 0 0
 over-head [] was h = absurd (omega arith)
@@ -22,22 +22,22 @@ unfolding stored_of
 none-stored lined text l = rw l
 
 module _ {lined : Bool} {text was now : List ℕ} {r : Scanned} (a : ScanAs lined text was now r)
-    {count needs : ℕ} (e : r ≡ Numbers count needs) where
-  pub stored-size : length (stored_of lined text) ≡ count
-  stored-size = sym (a.counted count needs e).size
+    {n : Numbers} (e : r ≡ Ok n) where
+  pub stored-size : length (stored_of lined text) ≡ n.count
+  stored-size = sym (a.counted n e).size
 
-  pub stored-front : take count now ≡ stored_of lined text
+  pub stored-front : take n.count now ≡ stored_of lined text
   stored-front = filled-front (stored_of lined text) was stored-size a.stored
 
   -- they can be lent
-  pub stored-fits : count ≤ length now
+  pub stored-fits : n.count ≤ length now
   stored-fits = filled-fits (stored_of lined text) was stored-size a.stored
 
-  pub stored-lent : count ≡ length (take count now)
+  pub stored-lent : n.count ≡ length (take n.count now)
   stored-lent = rw stored-front (sym stored-size)
 
   pub stored_some : 0 < length (stored_of lined text)
-  stored_some = omega (arith, stored-size, (a.counted count needs e).some)
+  stored_some = omega (arith, stored-size, (a.counted n e).some)
 
   -- the text is not too long
   pub stored_short : length text ≤ text_bytes

@@ -1,48 +1,52 @@
--- Numbers that need not stand in the lines of a list: no line is at fault, and none promises pairs, so that faults 3, 4 and 8 do not occur.
+-- Numbers that need not stand in the lines of a list: no line is at fault, and none promises pairs, so that three of the faults do not occur.
 use Prim.Native.Nat.{ℕ, ◌-◌, ◌*◌, ◌+◌}
 use mathlib.Core.Bool.{Bool, true, false, cond}
 use mathlib.Core.List.{List, [], ◌∷◌}
 use mathlib.Core.Path.{◌≡◌, refl}
 use lib.Dec.{ltb, eqb}
 use lib.ListN.{length}
-use borrow.Author.Tests.{eqb-false}
 use Rattle.text_pieces.specs.Pieces.{zero_byte, nine_byte, newline}
 use Rattle.scan.specs.declared.State.{State}
-use Rattle.scan.specs.declared.Scanned.{Scanned}
-use Rattle.scan.specs.declared.Scanned.TheVariants.{Numbers, Faulty}
-use Rattle.scan.specs.Scan.{max_numbers, max_value, text_bytes, is_blank, comment_byte, start, failed, with_digit, is_second, number_ended, line_fault}
-use Rattle.scan.specs.Scan.{line_ended, step_in_line, step, end_fault, at_end, finished, after, last, fault_index, faulty_at, without_mark, scanned}
+use Rattle.std.specs.Prelude.{Option, None, Some, is_some, Ok, Err, ⊤}
+use Rattle.scan.specs.declared.FaultAt.{FaultAt}
+use Rattle.scan.specs.declared.TextFault.{TextFault}
+use Rattle.scan.specs.declared.TextFault.TheVariants.{BadByte, LargeNumber, BadFirstLine, BadLine, TooManyNumbers, NoNumber, TooLong, OtherPairs}
+use Rattle.scan.specs.Scan.{max_numbers, max_value, text_bytes, is_blank, comment_byte, start, with_fault, failed, with_digit, is_second, number_ended, line_fault}
+use Rattle.scan.specs.Scan.{line_ended, step_in_line, step, end_fault, at_end, finished, after, last, fault_index, faulty_at, without_mark, scanned, Scanned, result_with}
 
--- not 3, 4 or 8
-pub record NoLine (fault : ℕ) : Type 0 where
-  pub first : fault ≡ 3 → ⊥
-  pub later : fault ≡ 4 → ⊥
-  pub pairs : fault ≡ 8 → ⊥
+-- not that a line is wrong, nor that there are other pairs than the first line says
+abbrev pub no_line : TextFault → Bool
+no_line BadFirstLine = false
+no_line BadLine = false
+no_line OtherPairs = false
+no_line BadByte = true
+no_line LargeNumber = true
+no_line TooManyNumbers = true
+no_line NoNumber = true
+no_line TooLong = true
+
+abbrev pub NoLine : Option TextFault → Type 0
+NoLine None = ⊤
+NoLine (Some fault) = no_line fault ≡ true
 
 record Unlined (s : State) : Type 0 where
   lined : s.lined ≡ false
   promised : s.promised ≡ 0
   fault : NoLine s.fault
 
-no_line : (fault : ℕ) → eqb fault 3 ≡ false → eqb fault 4 ≡ false → eqb fault 8 ≡ false → NoLine fault
-no_line fault e e' e'' = record { first = eqb-false fault 3 e; later = eqb-false fault 4 e'; pairs = eqb-false fault 8 e'' }
-
-none : NoLine 0
-none = no_line 0 refl refl refl
-
 either : {x y : State} (b : Bool) → Unlined x → Unlined y → Unlined (cond b x y)
 either true p q = p
 either false p q = q
 
 module _ (s : State) (u : Unlined s) where
-  failed-unlined : (fault : ℕ) → NoLine fault → Unlined (failed s fault)
+  failed-unlined : (fault : Option TextFault) → NoLine fault → Unlined (with_fault s fault)
   failed-unlined fault n = record { lined = u.lined; promised = u.promised; fault = n }
 
   digit-unlined : (d : ℕ) → Unlined (with_digit s d)
   unfolding with_digit
   digit-unlined d =
-      either (ltb max_value (10 * s.value + d)) (failed-unlined 2 (no_line 2 refl refl refl))
-      (record { lined = u.lined; promised = u.promised; fault = none })
+      either (ltb max_value (10 * s.value + d)) (failed-unlined (Some LargeNumber) refl)
+      (record { lined = u.lined; promised = u.promised; fault = tt })
 
   not-second : is_second s ≡ false
   unfolding is_second
@@ -53,35 +57,35 @@ module _ (s : State) (u : Unlined s) where
   ended-unlined =
       rw not-second
       (either s.inside
-      (either (ltb s.count max_numbers) (record { lined = u.lined; promised = u.promised; fault = none })
-      (failed-unlined 5 (no_line 5 refl refl refl)))
+      (either (ltb s.count max_numbers) (record { lined = u.lined; promised = u.promised; fault = tt })
+      (failed-unlined (Some TooManyNumbers) refl))
       u)
 
-  no-fault : line_fault s.lined s.first s.needs s.count ≡ 0
+  no-fault : line_fault s.lined s.first s.needs s.count ≡ None
   unfolding line_fault
   no-fault = rw u.lined
 
   line-unlined : Unlined (line_ended s)
   unfolding line_ended
-  line-unlined = either (eqb s.fault 0) (rw no-fault (record { lined = u.lined; promised = u.promised; fault = none })) u
+  line-unlined = either (is_some s.fault) u (rw no-fault (record { lined = u.lined; promised = u.promised; fault = tt }))
 
   end-no-line : NoLine (end_fault s)
   unfolding end_fault
   end-no-line = rw u.promised (go (eqb s.count 0))
     where
-      go : (b : Bool) → NoLine (cond b 6 0)
-      go true = no_line 6 refl refl refl
-      go false = none
+      go : (b : Bool) → NoLine (cond b (Some NoNumber) None)
+      go true = refl
+      go false = tt
 
   end-unlined : Unlined (at_end s)
   unfolding at_end
-  end-unlined = either (eqb s.fault 0) (failed-unlined (end_fault s) end-no-line) u
+  end-unlined = either (is_some s.fault) u (failed-unlined (end_fault s) end-no-line)
 
 module _ (s : State) (u : Unlined s) where
   in-unlined : (byte : ℕ) → Unlined (step_in_line s byte)
   unfolding step_in_line
   in-unlined byte =
-      let wrong : Unlined (failed s 1) = failed-unlined s u 1 (no_line 1 refl refl refl) in
+      let wrong : Unlined (failed s BadByte) = failed-unlined s u (Some BadByte) refl in
       let ended = ended-unlined s u in
       either (is_blank byte) ended
       (either (eqb byte comment_byte) (record { lined = ended.lined; promised = ended.promised; fault = ended.fault })
@@ -90,13 +94,12 @@ module _ (s : State) (u : Unlined s) where
   step-unlined : (byte : ℕ) → Unlined (step s byte)
   unfolding step
   step-unlined byte =
-      either (eqb s.fault 0)
+      either (is_some s.fault) u
       (either (eqb byte newline) (line-unlined (number_ended s) (ended-unlined s u)) (either s.comment u (in-unlined byte)))
-      u
 
   finish-unlined : Unlined (finished s)
   unfolding finished
-  finish-unlined = either (eqb s.fault 0) (end-unlined (line_ended (number_ended s)) (line-unlined (number_ended s) (ended-unlined s u))) u
+  finish-unlined = either (is_some s.fault) u (end-unlined (line_ended (number_ended s)) (line-unlined (number_ended s) (ended-unlined s u)))
 
 after-unlined : (s : State) → Unlined s → (bs : List ℕ) → Unlined (after s bs)
 unfolding after
@@ -104,26 +107,27 @@ after-unlined s u [] = u
 after-unlined s u (b ∷ bs) = after-unlined (step s b) (step-unlined s u b) bs
 
 last-unlined : (bs : List ℕ) → Unlined (last false bs)
-last-unlined bs = finish-unlined (after (start false) bs) (after-unlined (start false) (record { lined = refl; promised = refl; fault = none }) bs)
+last-unlined bs = finish-unlined (after (start false) bs) (after-unlined (start false) (record { lined = refl; promised = refl; fault = tt }) bs)
 
--- the fault of a text that is faulty
-fault_of : Scanned → ℕ
-fault_of (Numbers count needs) = 0
-fault_of (Faulty fault line column byte) = fault
+-- what a text comes to
+abbrev pub FairFault : Scanned → Type 0
+FairFault (Ok n) = ⊤
+FairFault (Err f) = no_line f.fault ≡ true
 
-scanned-unlined : (bs : List ℕ) → NoLine (fault_of (scanned false bs))
-unfolding scanned fault_of
-scanned-unlined bs = go (ltb text_bytes (length bs)) (eqb (last false ts).fault 0)
+scanned-unlined : (bs : List ℕ) → FairFault (scanned false bs)
+unfolding scanned result_with
+scanned-unlined bs = go (ltb text_bytes (length bs)) (last false ts).fault (last-unlined ts).fault
   where
     ts : List ℕ
     ts = without_mark bs
 
-    go : (b b' : Bool) → NoLine (fault_of (cond b (faulty_at 7 bs text_bytes)
-        (cond b' (Numbers (last false ts).count (last false ts).needs) (faulty_at (last false ts).fault ts (fault_index false ts)))))
-    go true b' = no_line 7 refl refl refl
-    go false true = none
-    go false false = (last-unlined ts).fault
+    go : (b : Bool) (fault : Option TextFault) → NoLine fault → FairFault (cond b (Err (faulty_at TooLong bs text_bytes))
+        (result_with fault (last false ts) ts (fault_index false ts)))
+    go true fault h = refl
+    go false None h = tt
+    go false (Some fault) h = h
 
-pub no-line-fault : (bs : List ℕ) {fault line column byte : ℕ} → scanned false bs ≡ Faulty fault line column byte → NoLine fault
-unfolding fault_of
-no-line-fault bs e = rw e at (scanned-unlined bs)
+pub no-line-fault : (bs : List ℕ) {f : FaultAt} → scanned false bs ≡ Err f → no_line f.fault ≡ true
+no-line-fault bs {f} e =
+    let fair : FairFault (Err f) = rw e at (scanned-unlined bs) in
+    fair

@@ -3,14 +3,17 @@
 -- In the lines of a delay list the first line with a number has one, the count of registers, or two, that and the count of pairs. Then
 -- there may be lines of two, the needs of a register: hold and setup. Each later one has four, those of a pair. Lines without a number
 -- are skipped.
+use Rattle.std.specs.Prelude.{Option, None, Some, is_some, Result, Ok, Err, slice_get}
 use Rattle.std.specs.Prelude.{ℕ, suc, ◌+◌, ◌-◌, ◌*◌, ◌≤◌, ◌<◌, Bool, false, true, cond, ◌&&◌, ◌||◌, List, [], ◌∷◌, ◌++◌, ◌≡◌, ltb, leb, eqb, length, set, get_or, take, drop}
 use Rattle.timing.specs.Limits.{max_registers, max_pairs}
 use Rattle.buffers.specs.Over.{over}
 use Rattle.text_pieces.specs.Pieces.{zero_byte, nine_byte, space, newline}
 use Rattle.scan.specs.declared.State.{State}
 use Rattle.scan.specs.declared.Place.{Place}
-use Rattle.scan.specs.declared.Scanned.{Scanned}
-use Rattle.scan.specs.declared.Scanned.TheVariants.{Numbers, Faulty}
+use Rattle.scan.specs.declared.Numbers.{Numbers}
+use Rattle.scan.specs.declared.FaultAt.{FaultAt}
+use Rattle.scan.specs.declared.TextFault.{TextFault}
+use Rattle.scan.specs.declared.TextFault.TheVariants.{BadByte, LargeNumber, BadFirstLine, BadLine, TooManyNumbers, NoNumber, TooLong, OtherPairs}
 
 -- the most numbers that a text may hold: the count of registers, two for each register, and four for each pair
 abbrev pub max_numbers : ℕ
@@ -45,12 +48,12 @@ start lined =
       inside = false;
       value = 0;
       comment = false;
-      fault = 0;
+      fault = None;
     }
 
 -- something is wrong; nothing that follows changes that
-abbrev pub failed : State → ℕ → State
-failed s fault =
+abbrev pub with_fault : State → Option TextFault → State
+with_fault s fault =
     record {
       lined = s.lined;
       first = s.first;
@@ -62,6 +65,9 @@ failed s fault =
       comment = s.comment;
       fault = fault;
     }
+
+abbrev pub failed : State → TextFault → State
+failed s fault = with_fault s (Some fault)
 
 -- in a number, with its value so far
 abbrev pub valued : State → ℕ → State
@@ -75,12 +81,12 @@ valued s value =
       inside = true;
       value = value;
       comment = s.comment;
-      fault = 0;
+      fault = None;
     }
 
--- a digit more. 2: a number of more than 32 bits
+-- a digit more; no number has more than 32 bits
 unfoldable pub with_digit : State → ℕ → State
-with_digit s d = cond (ltb max_value (10 * s.value + d)) (failed s 2) (valued s (10 * s.value + d))
+with_digit s d = cond (ltb max_value (10 * s.value + d)) (failed s LargeNumber) (valued s (10 * s.value + d))
 
 -- whether a number that ends is the second one of a list's first line: the count of pairs
 unfoldable pub is_second : State → Bool
@@ -98,15 +104,15 @@ outside s count promised =
       inside = false;
       value = 0;
       comment = s.comment;
-      fault = 0;
+      fault = None;
     }
 
--- the end of a number, if one has begun. The count of pairs is not one of the numbers: it promises how many there are. 5: too many numbers
+-- the end of a number, if one has begun. The count of pairs is not one of the numbers: it promises how many there are
 unfoldable pub number_ended : State → State
 number_ended s =
     cond s.inside
     (cond (is_second s) (outside s s.count (4 * s.value + 1))
-    (cond (ltb s.count max_numbers) (outside s (s.count + 1) s.promised) (failed s 5)))
+    (cond (ltb s.count max_numbers) (outside s (s.count + 1) s.promised) (failed s TooManyNumbers)))
     s
 
 -- At the end of a line `first` numbers stand in the lines before, of which `needs` are needs, and `count` in all.
@@ -119,14 +125,15 @@ need_line lined first needs count = lined && (eqb first (needs + 1) && eqb count
 unfoldable pub needs_then : Bool → ℕ → ℕ → ℕ → ℕ
 needs_then lined first needs count = cond (need_line lined first needs count) (needs + 2) needs
 
--- what is wrong with the line. 3: not one number in the first line of a list, or two. 4: neither the two needs of a register, before the
+-- what is wrong with the line: not one number in the first line of a list, or two; or neither the two needs of a register, before the
 -- pairs, nor the four of a pair in a later one
-unfoldable pub line_fault : Bool → ℕ → ℕ → ℕ → ℕ
+unfoldable pub line_fault : Bool → ℕ → ℕ → ℕ → Option TextFault
 line_fault lined first needs count =
     cond lined
-    (cond (eqb count first) 0
-    (cond (eqb first 0) (cond (eqb count 1) 0 3) (cond (eqb count (first + 4)) 0 (cond (need_line lined first needs count) 0 4))))
-    0
+    (cond (eqb count first) None
+    (cond (eqb first 0) (cond (eqb count 1) None (Some BadFirstLine))
+    (cond (eqb count (first + 4)) None (cond (need_line lined first needs count) None (Some BadLine)))))
+    None
 
 -- the next line
 abbrev pub next_line : State → State
@@ -140,14 +147,14 @@ next_line s =
       inside = s.inside;
       value = s.value;
       comment = false;
-      fault = 0;
+      fault = None;
     }
 
 -- the end of a line
 unfoldable pub line_ended : State → State
 line_ended s =
-    let wrong : ℕ = line_fault s.lined s.first s.needs s.count in
-    cond (eqb s.fault 0) (cond (eqb wrong 0) (next_line s) (failed s wrong)) s
+    let wrong : Option TextFault = line_fault s.lined s.first s.needs s.count in
+    cond (is_some s.fault) s (cond (is_some wrong) (with_fault s wrong) (next_line s))
 
 -- a comment begins
 abbrev pub commented : State → State
@@ -164,32 +171,32 @@ commented s =
       fault = s.fault;
     }
 
--- a byte in a line, outside comments. 1: neither a digit nor a blank nor the start of a comment
+-- a byte in a line, outside comments: a digit, a blank or the start of a comment
 unfoldable pub step_in_line : State → ℕ → State
 step_in_line s byte =
     cond (is_blank byte) (number_ended s)
     (cond (eqb byte comment_byte) (commented (number_ended s))
-    (cond (ltb byte zero_byte) (failed s 1) (cond (ltb nine_byte byte) (failed s 1) (with_digit s (byte - zero_byte)))))
+    (cond (ltb byte zero_byte) (failed s BadByte) (cond (ltb nine_byte byte) (failed s BadByte) (with_digit s (byte - zero_byte)))))
 
 -- a byte more
 unfoldable pub step : State → ℕ → State
 step s byte =
-    cond (eqb s.fault 0)
+    cond (is_some s.fault) s
     (cond (eqb byte newline) (line_ended (number_ended s)) (cond s.comment s (step_in_line s byte)))
-    s
 
--- what is wrong with the end of the text. 6: no number at all. 8: not as many pairs as the first line says; needs are not counted
-unfoldable pub end_fault : State → ℕ
+-- what is wrong with the end of the text: no number at all, or not as many pairs as the first line says; needs are not counted
+unfoldable pub end_fault : State → Option TextFault
 end_fault s =
-    cond (eqb s.count 0) 6 (cond (eqb s.promised 0) 0 (cond (eqb (s.count - s.needs) s.promised) 0 8))
+    cond (eqb s.count 0) (Some NoNumber)
+    (cond (eqb s.promised 0) None (cond (eqb (s.count - s.needs) s.promised) None (Some OtherPairs)))
 
 -- the end of the text, after its last line
 unfoldable pub at_end : State → State
-at_end s = cond (eqb s.fault 0) (failed s (end_fault s)) s
+at_end s = cond (is_some s.fault) s (with_fault s (end_fault s))
 
 -- the end of the text, which ends its last number and its last line
 unfoldable pub finished : State → State
-finished s = cond (eqb s.fault 0) (at_end (line_ended (number_ended s))) s
+finished s = cond (is_some s.fault) s (at_end (line_ended (number_ended s)))
 
 -- the number that ended on the way from one state to the next, if any
 unfoldable pub kept : State → State → List ℕ
@@ -239,7 +246,7 @@ place_of ts i = place_after first_place (take i ts)
 
 -- whether something is wrong, or `enough` numbers have ended
 unfoldable pub stops : ℕ → State → Bool
-stops enough s = cond (eqb s.fault 0) (leb enough s.count) true
+stops enough s = cond (is_some s.fault) true (leb enough s.count)
 
 -- how many bytes are read before one with which the reading stops; all, if there is none
 unfoldable pub goes_to : ℕ → State → List ℕ → ℕ
@@ -254,15 +261,24 @@ fault_index lined ts = goes_to (max_numbers + 1) (start lined) ts
 
 -- ---- the whole text
 
--- the byte that stands there: 256 for the end of the text
-abbrev pub faulty_at : ℕ → List ℕ → ℕ → Scanned
-faulty_at fault ts i = Faulty fault (place_of ts i).line (place_of ts i).column (get_or ts i 256)
+-- what reading a text comes to: the count of the numbers and of the needs among them, or what is wrong and where
+abbrev pub Scanned : Type 0
+Scanned = Result Numbers FaultAt
 
--- the count of the numbers and of the needs among them, or what is wrong and where
+-- with the byte that stands there, if any: none stands at the end of the text
+abbrev pub faulty_at : TextFault → List ℕ → ℕ → FaultAt
+faulty_at fault ts i = record { fault = fault; place = place_of ts i; byte = slice_get ts i }
+
+abbrev pub numbers_of : State → Numbers
+numbers_of s = record { count = s.count; needs = s.needs }
+
+-- a text that comes to such a state
+unfoldable pub result_with : Option TextFault → State → List ℕ → ℕ → Scanned
+result_with None s ts i = Ok (numbers_of s)
+result_with (Some fault) s ts i = Err (faulty_at fault ts i)
+
 abbrev pub result_of : Bool → List ℕ → Scanned
-result_of lined ts =
-    cond (eqb (last lined ts).fault 0) (Numbers (last lined ts).count (last lined ts).needs)
-    (faulty_at (last lined ts).fault ts (fault_index lined ts))
+result_of lined ts = result_with (last lined ts).fault (last lined ts) ts (fault_index lined ts)
 
 -- the bytes of a byte order mark at the start
 unfoldable pub mark_size : List ℕ → ℕ
@@ -280,9 +296,9 @@ line_in enough ts = (place_of ts (goes_to enough (start true) ts)).line
 abbrev pub line_of : ℕ → List ℕ → ℕ
 line_of k bs = line_in k (without_mark bs)
 
--- 7: a text that is too long, the mark counted: the first byte too many is at fault
+-- of a text that is too long, the mark counted, the first byte too many is at fault
 unfoldable pub scanned : Bool → List ℕ → Scanned
-scanned lined bs = cond (ltb text_bytes (length bs)) (faulty_at 7 bs text_bytes) (result_of lined (without_mark bs))
+scanned lined bs = cond (ltb text_bytes (length bs)) (Err (faulty_at TooLong bs text_bytes)) (result_of lined (without_mark bs))
 
 -- the numbers that are stored: none of a text that is too long
 unfoldable pub stored_of : Bool → List ℕ → List ℕ
@@ -298,13 +314,13 @@ pub record Counted (xs : List ℕ) (count needs : ℕ) : Type 0 where
 pub record TextAs (lined : Bool) (ts was now : List ℕ) (r : Scanned) : Type 0 where
   pub answer : r ≡ result_of lined ts
   pub stored : now ≡ over (scanned_numbers lined ts) was
-  pub counted : (count needs : ℕ) → r ≡ Numbers count needs → Counted (scanned_numbers lined ts) count needs
+  pub counted : (n : Numbers) → r ≡ Ok n → Counted (scanned_numbers lined ts) n.count n.needs
 
 -- a whole text bs was
 pub record ScanAs (lined : Bool) (bs was now : List ℕ) (r : Scanned) : Type 0 where
   pub answer : r ≡ scanned lined bs
   pub stored : now ≡ over (stored_of lined bs) was
-  pub counted : (count needs : ℕ) → r ≡ Numbers count needs → Counted (stored_of lined bs) count needs
+  pub counted : (n : Numbers) → r ≡ Ok n → Counted (stored_of lined bs) n.count n.needs
 
 -- ---- what holds on the way
 

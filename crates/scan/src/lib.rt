@@ -3,7 +3,7 @@
 #![tactic(auto)]
 
 ghost use Rattle.std.specs.Prelude.{◌≡◌, ◌+◌, ◌≤◌, ◌<◌, length, get_or};
-ghost use Rattle.scan.specs.Scan.{text_bytes, max_numbers, is_blank, start, failed, with_digit, is_second, number_ended};
+ghost use Rattle.scan.specs.Scan.{text_bytes, max_numbers, is_blank, start, failed, with_digit, is_second, outside, number_ended};
 ghost use Rattle.scan.specs.Scan.{need_line, needs_then, line_fault, line_ended};
 ghost use Rattle.scan.specs.Scan.{step_in_line, step, end_fault, finished, kept_in, next_place, place_of, stops};
 ghost use Rattle.scan.specs.Scan.{faulty_at, line_in, line_of, mark_size, StateIn, PlaceIn, ScannedTo, GoesTo, TextAs, ScanAs};
@@ -18,6 +18,24 @@ const MAX_VALUE: u64 = 4_294_967_295;
 
 // The longest text.
 pub const TEXT_BYTES: usize = 131_072;
+
+// What can be wrong with a text.
+#[derive(Clone, Copy, Debug, PartialEq, Eq)]
+pub enum TextFault {
+    // neither a digit nor a blank nor the start of a comment
+    BadByte,
+    // a number of more than 32 bits
+    LargeNumber,
+    // not one number in the first line of a list, or two
+    BadFirstLine,
+    // neither the two needs of a register, before the pairs, nor the four numbers of a pair in a later one
+    BadLine,
+    TooManyNumbers,
+    NoNumber,
+    TooLong,
+    // not as many pairs as the first line says
+    OtherPairs,
+}
 
 // How far the reading of a text has come.
 #[derive(Clone, Copy)]
@@ -37,26 +55,29 @@ pub struct State {
     pub value: u32,
     // whether the rest of the line is a comment
     pub comment: bool,
-    // 0, or what is wrong
-    pub fault: u32,
+    pub fault: Option<TextFault>,
 }
 
 // Where a byte stands in a text, line and column counted from 1.
-#[derive(Clone, Copy)]
+#[derive(Clone, Copy, Debug, PartialEq, Eq)]
 pub struct Place {
     pub line: usize,
     pub column: usize,
 }
 
-// The byte that is named where a text is at fault at its end.
-pub const END: u32 = 256;
+// The count of a text's numbers and how many of them are needs, which stand right after the first number.
+#[derive(Clone, Copy, Debug, PartialEq, Eq)]
+pub struct Numbers {
+    pub count: usize,
+    pub needs: usize,
+}
 
-// What reading a text comes to: the count of its numbers and how many of them are needs, which stand right after the first number; or what
-// is wrong, the line, the column and the byte there.
-#[derive(Clone, Copy)]
-pub enum Scanned {
-    Numbers(usize, usize),
-    Faulty(u32, usize, usize, u32),
+// What is wrong with a text, where, and the byte there; none at the end of the text.
+#[derive(Clone, Copy, Debug, PartialEq, Eq)]
+pub struct FaultAt {
+    pub fault: TextFault,
+    pub place: Place,
+    pub byte: Option<u8>,
 }
 
 fn begin(lined: bool) -> State
@@ -71,87 +92,142 @@ fn begin(lined: bool) -> State
         inside: false,
         value: 0,
         comment: false,
-        fault: 0,
+        fault: None,
     }
 }
 
 // A space, a comma, a tab or a carriage return.
+#[tactic(auto, unfolding(crate::specs::Scan::is_blank))]
 fn blank(byte: u8) -> bool
     ensures { result ≡ is_blank byte }
 {
-    if byte == b' ' {
-        return true;
-    }
-    if byte == b',' {
-        return true;
-    }
-    if byte == b'\t' {
-        return true;
-    }
-    byte == b'\r'
+    matches!(byte, b' ' | b',' | b'\t' | b'\r')
 }
 
 impl State {
-    fn fail(self, fault: u32) -> State
+    fn fail(self, fault: TextFault) -> State
         ensures { result ≡ failed self fault }
     {
-        let mut next = self;
-        next.fault = fault;
-        next
+        State {
+            fault: Some(fault),
+            ..self
+        }
     }
 
-    // A digit more. 2: a number of more than 32 bits.
+    // A digit more.
     fn digit(self, d: u32) -> State
         requires { d < 10 }
         ensures { result ≡ with_digit self d }
     {
         let value = 10 * (self.value as u64) + d as u64;
         if value > MAX_VALUE {
-            return self.fail(2);
+            return self.fail(TextFault::LargeNumber);
         }
-        let mut next = self;
-        next.inside = true;
-        next.value = value as u32;
-        next.fault = 0;
-        next
+        State {
+            inside: true,
+            value: value as u32,
+            fault: None,
+            ..self
+        }
     }
 
     // Whether a number that ends is the count of pairs in the first line.
+    #[tactic(auto, unfolding(crate::specs::Scan::is_second))]
     fn is_second(self) -> bool
         ensures { result ≡ is_second self }
     {
-        if !self.lined {
-            return false;
-        }
-        if self.first != 0 {
-            return false;
-        }
-        if self.count != 1 {
-            return false;
-        }
-        self.promised == 0
+        matches!(
+            self,
+            State {
+                lined: true,
+                first: 0,
+                count: 1,
+                promised: 0,
+                ..
+            }
+        )
     }
 
-    // The end of a number, if one has begun. 5: too many numbers.
+    // No number has begun; `count` have ended, and `promised` are promised.
+    fn outside(self, count: usize, promised: usize) -> State
+        ensures { result ≡ outside self count promised }
+    {
+        State {
+            count,
+            promised,
+            inside: false,
+            value: 0,
+            fault: None,
+            ..self
+        }
+    }
+
+    // The end of a number, if one has begun.
     fn close(self) -> State
         ensures { result ≡ number_ended self }
     {
         if !self.inside {
             return self;
         }
-        let mut next = self;
-        next.inside = false;
-        next.value = 0;
-        next.fault = 0;
         if self.is_second() {
-            next.promised = 4 * (self.value as usize) + 1;
-            return next;
+            return self.outside(self.count, 4 * (self.value as usize) + 1);
         }
         if self.count >= MAX_NUMBERS {
-            return self.fail(5);
+            return self.fail(TextFault::TooManyNumbers);
         }
-        next.count = self.count + 1;
-        next
+        self.outside(self.count + 1, self.promised)
+    }
+
+    // Whether the line holds the needs of a register: before it stand only the first line and lines of needs.
+    fn need_line(self) -> bool
+        requires { StateIn self }
+        ensures { result ≡ need_line self.lined self.first self.needs self.count }
+    {
+        if !self.lined {
+            return false;
+        }
+        if self.first != self.needs + 1 {
+            return false;
+        }
+        self.count == self.first + 2
+    }
+
+    // How many numbers are needs after the line.
+    fn needs_then(self) -> usize
+        requires { StateIn self }
+        ensures { result ≡ needs_then self.lined self.first self.needs self.count }
+    {
+        if self.need_line() {
+            self.needs + 2
+        } else {
+            self.needs
+        }
+    }
+
+    // What is wrong with the line.
+    fn line_fault(self) -> Option<TextFault>
+        requires { StateIn self }
+        ensures { result ≡ line_fault self.lined self.first self.needs self.count }
+    {
+        if !self.lined {
+            return None;
+        }
+        if self.count == self.first {
+            return None;
+        }
+        if self.first == 0 {
+            if self.count == 1 {
+                return None;
+            }
+            return Some(TextFault::BadFirstLine);
+        }
+        if self.count == self.first + 4 {
+            return None;
+        }
+        if self.need_line() {
+            return None;
+        }
+        Some(TextFault::BadLine)
     }
 
     // The end of a line.
@@ -159,22 +235,22 @@ impl State {
         requires { StateIn self }
         ensures { result ≡ line_ended self }
     {
-        if self.fault != 0 {
+        if self.fault.is_some() {
             return self;
         }
-        let fault = line_fault(self.lined, self.first, self.needs, self.count);
-        if fault != 0 {
+        if let Some(fault) = self.line_fault() {
             return self.fail(fault);
         }
-        let mut next = self;
-        next.first = self.count;
-        next.needs = needs_then(self.lined, self.first, self.needs, self.count);
-        next.comment = false;
-        next.fault = 0;
-        next
+        State {
+            first: self.count,
+            needs: self.needs_then(),
+            comment: false,
+            fault: None,
+            ..self
+        }
     }
 
-    // A byte in a line, outside comments. 1: neither a digit nor a blank nor the start of a comment.
+    // A byte in a line, outside comments.
     fn step_in_line(self, byte: u8) -> State
         requires { StateIn self }
         ensures { result ≡ step_in_line self byte }
@@ -183,15 +259,16 @@ impl State {
             return self.close();
         }
         if byte == b'#' {
-            let mut next = self.close();
-            next.comment = true;
-            return next;
+            return State {
+                comment: true,
+                ..self.close()
+            };
         }
         if byte < b'0' {
-            return self.fail(1);
+            return self.fail(TextFault::BadByte);
         }
         if byte > b'9' {
-            return self.fail(1);
+            return self.fail(TextFault::BadByte);
         }
         self.digit((byte - b'0') as u32)
     }
@@ -201,7 +278,7 @@ impl State {
         requires { StateIn self }
         ensures { result ≡ step self byte }
     {
-        if self.fault != 0 {
+        if self.fault.is_some() {
             return self;
         }
         if byte == b'\n' {
@@ -213,21 +290,21 @@ impl State {
         self.step_in_line(byte)
     }
 
-    // What is wrong with the end of the text. 6: no number at all. 8: not as many pairs as the first line says.
-    fn end_fault(self) -> u32
+    // What is wrong with the end of the text.
+    fn end_fault(self) -> Option<TextFault>
         requires { StateIn self }
         ensures { result ≡ end_fault self }
     {
         if self.count == 0 {
-            return 6;
+            return Some(TextFault::NoNumber);
         }
         if self.promised == 0 {
-            return 0;
+            return None;
         }
         if self.count - self.needs == self.promised {
-            return 0;
+            return None;
         }
-        8
+        Some(TextFault::OtherPairs)
     }
 
     // The end of the text, which ends its last number and its last line.
@@ -235,67 +312,18 @@ impl State {
         requires { StateIn self }
         ensures { result ≡ finished self }
     {
-        if self.fault != 0 {
+        if self.fault.is_some() {
             return self;
         }
         let last = self.close().end_line();
-        if last.fault != 0 {
+        if last.fault.is_some() {
             return last;
         }
-        last.fail(last.end_fault())
-    }
-}
-
-// Whether a line holds the needs of a register, after `first` numbers in the lines before, of which `needs` are needs, and `count` in all.
-fn need_line(lined: bool, first: usize, needs: usize, count: usize) -> bool
-    requires { (first ≤ max_numbers) × (needs ≤ max_numbers) }
-    ensures { result ≡ need_line lined first needs count }
-{
-    if !lined {
-        return false;
-    }
-    if first != needs + 1 {
-        return false;
-    }
-    count == first + 2
-}
-
-// How many numbers are needs after the line.
-fn needs_then(lined: bool, first: usize, needs: usize, count: usize) -> usize
-    requires { (first ≤ max_numbers) × (needs ≤ max_numbers) }
-    ensures { result ≡ needs_then lined first needs count }
-{
-    if need_line(lined, first, needs, count) {
-        return needs + 2;
-    }
-    needs
-}
-
-// What is wrong with the line. 3: not one number in the first line of a list, or two. 4: neither the two needs of a register, before the
-// pairs, nor the four of a pair in a later one.
-fn line_fault(lined: bool, first: usize, needs: usize, count: usize) -> u32
-    requires { (first ≤ max_numbers) × (needs ≤ max_numbers) }
-    ensures { result ≡ line_fault lined first needs count }
-{
-    if !lined {
-        return 0;
-    }
-    if count == first {
-        return 0;
-    }
-    if first == 0 {
-        if count == 1 {
-            return 0;
+        State {
+            fault: last.end_fault(),
+            ..last
         }
-        return 3;
     }
-    if count == first + 4 {
-        return 0;
-    }
-    if need_line(lined, first, needs, count) {
-        return 0;
-    }
-    4
 }
 
 // The number that ended on the way from one state to the next, if any, put in its place.
@@ -335,10 +363,8 @@ fn read_bytes(bytes: &[u8], lined: bool, numbers: &mut [u32]) -> State
     ensures { ScannedTo lined bytes.now numbers.old numbers.new result }
 {
     let mut state = begin(lined);
-    let mut i = 0;
-    while i < bytes.len() {
-        state = turn(state, bytes[i], numbers);
-        i += 1;
+    for byte in bytes {
+        state = turn(state, *byte, numbers);
     }
     state
 }
@@ -366,10 +392,8 @@ fn place_of(text: &[u8], at: usize) -> Place
     ensures { result ≡ place_of text.now at }
 {
     let mut place = Place { line: 1, column: 1 };
-    let mut i = 0;
-    while i < at {
+    for i in 0..at {
         place = next_place(place, text[i]);
-        i += 1;
     }
     place
 }
@@ -378,10 +402,7 @@ fn place_of(text: &[u8], at: usize) -> Place
 fn stops(enough: usize, state: State) -> bool
     ensures { result ≡ stops enough state }
 {
-    if state.fault != 0 {
-        return true;
-    }
-    state.count >= enough
+    state.fault.is_some() || state.count >= enough
 }
 
 // The index of the byte with which reading stops.
@@ -389,74 +410,53 @@ fn goes_to(text: &[u8], lined: bool, enough: usize) -> usize
     ensures { GoesTo enough lined text.now result }
 {
     let mut state = begin(lined);
-    let mut i = 0;
-    while i < text.len() {
-        state = state.step(text[i]);
+    for (i, byte) in text.iter().enumerate() {
+        state = state.step(*byte);
         if stops(enough, state) {
             return i;
         }
-        i += 1;
     }
-    i
-}
-
-fn wide(byte: u8) -> u32
-    ensures { result ≡ byte }
-{
-    byte as u32
-}
-
-// Byte `at`, or what is named at the end.
-fn byte_at(text: &[u8], at: usize) -> u32
-    ensures { result ≡ get_or text.now at 256 }
-{
-    if at < text.len() {
-        return wide(text[at]);
-    }
-    END
+    text.len()
 }
 
 // What is wrong, and where: at byte `at`, or at the end.
-fn faulty(text: &[u8], fault: u32, at: usize) -> Scanned
+fn fault_at(text: &[u8], fault: TextFault, at: usize) -> FaultAt
     requires { (at ≤ length text.now) × (at ≤ text_bytes) }
     ensures { result ≡ faulty_at fault text.now at }
 {
-    let place = place_of(text, at);
-    let byte = byte_at(text, at);
-    Scanned::Faulty(fault, place.line, place.column, byte)
+    FaultAt {
+        fault,
+        place: place_of(text, at),
+        byte: text.get(at).copied(),
+    }
 }
 
 // The numbers of a text that is not too long and has no mark, or none any more.
-fn scan_text(text: &[u8], lined: bool, numbers: &mut [u32]) -> Scanned
+fn scan_text(text: &[u8], lined: bool, numbers: &mut [u32]) -> Result<Numbers, FaultAt>
     requires { (length text.now ≤ text_bytes) × (max_numbers ≤ length numbers.old) }
     ensures { TextAs lined text.now numbers.old numbers.new result }
 {
     let walked = read_bytes(text, lined, numbers);
     let last = turn_end(walked, numbers);
-    if last.fault != 0 {
+    if let Some(fault) = last.fault {
         let at = goes_to(text, lined, MAX_NUMBERS + 1);
-        return faulty(text, last.fault, at);
+        return Err(fault_at(text, fault, at));
     }
-    Scanned::Numbers(last.count, last.needs)
+    Ok(Numbers {
+        count: last.count,
+        needs: last.needs,
+    })
 }
 
 // The bytes of a byte order mark at the start: 3, or 0 if there is none.
+#[tactic(auto, using(crate::proofs::ScanLaws::mark_few), unfolding(crate::specs::Scan::mark_size))]
 fn mark_size(bytes: &[u8]) -> usize
     ensures { result ≡ mark_size bytes.now }
 {
-    if bytes.len() < 3 {
-        return 0;
+    match bytes {
+        [239, 187, 191, ..] => 3,
+        _ => 0,
     }
-    if bytes[0] != 239 {
-        return 0;
-    }
-    if bytes[1] != 187 {
-        return 0;
-    }
-    if bytes[2] != 191 {
-        return 0;
-    }
-    3
 }
 
 // The line of a list in which `enough` numbers have ended.
@@ -465,8 +465,7 @@ fn line_in(text: &[u8], enough: usize) -> usize
     ensures { result ≡ line_in enough text.now }
 {
     let at = goes_to(text, true, enough);
-    let place = place_of(text, at);
-    place.line
+    place_of(text, at).line
 }
 
 // The line of the text of a list in which number k ends, counted from 1.
@@ -479,13 +478,13 @@ pub fn line_of(bytes: &[u8], k: usize) -> usize
 }
 
 // The numbers of a text, in the first places of `numbers`; later places keep their contents. Their count and that of the needs are returned.
-// Of a faulty text the numbers before the fault are stored, and what is wrong and where is returned; 7: a text that is too long, with the
-// first byte too many.
-pub fn scan(bytes: &[u8], lined: bool, numbers: &mut [u32; MAX_NUMBERS]) -> Scanned
+// Of a faulty text the numbers before the fault are stored, and what is wrong and where is returned; a text that is too long is at fault at
+// the first byte too many.
+pub fn scan(bytes: &[u8], lined: bool, numbers: &mut [u32; MAX_NUMBERS]) -> Result<Numbers, FaultAt>
     ensures { ScanAs lined bytes.now numbers.old numbers.new result }
 {
     if bytes.len() > TEXT_BYTES {
-        return faulty(bytes, 7, TEXT_BYTES);
+        return Err(fault_at(bytes, TextFault::TooLong, TEXT_BYTES));
     }
     let from = mark_size(bytes);
     scan_text(&bytes[from..], lined, numbers)

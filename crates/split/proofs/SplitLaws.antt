@@ -11,16 +11,12 @@ use lib.ListN.{length, take, drop, replicate, length-replicate, length-map}
 use lib.Seq.{take_at}
 use borrow.Author.Tests.{ltb-false, eqb-false}
 use Rattle.buffers.specs.Over.{over}
-use Rattle.refusals.specs.Checks.{first_fault}
+use Rattle.refusals.specs.Checks.{first_fault, no_fault, Fault, number_of}
 use Rattle.refusals.specs.Reply.{refused, reply_of, buffer_after, scratch_after}
 use Rattle.timing.specs.Limits.{max_timing, scratch_places}
-use Rattle.refusals.specs.declared.Fault.{Fault}
-use Rattle.refusals.specs.declared.Fault.TheVariants.{None, At}
 use Rattle.refusals.proofs.CheckLaws.{pass-both, both-pass, passed}
 use Rattle.refusals.proofs.ReplyLaws.{answered-done, first-refused, then-refused}
-use Rattle.list_format.specs.Lists.{registers, pair_count, pairs, list_checks, verdict, IsAccepted}
-use Rattle.list_format.specs.declared.Verdict.TheVariants.{Accepted}
-use Rattle.list_format.specs.declared.Verdict.TheVariants.{Refused as ListRefused}
+use Rattle.list_format.specs.Lists.{registers, pair_count, pairs, list_checks, verdict, accepted, IsAccepted}
 use Rattle.list_format.proofs.ListLaws.{refused→fault, accepted→none, none→accepted, usable-list}
 use Rattle.split_laws.specs.Split.{time_of, timings, works, first_split}
 use Rattle.split_laws.proofs.TimingsLaws.{two-timings, timings-below}
@@ -28,13 +24,14 @@ use Rattle.split_laws.proofs.FoundLaws.{found-works, none-works}
 use Rattle.checker.proofs.CheckLaws.{admissible-passes}
 use Rattle.split_laws.specs.Marks.{split_of}
 use Rattle.propagate.specs.Store.{Decided, chosen}
-use Rattle.split.specs.declared.Splitting.TheVariants.{Split, NoSplit, Refused}
 use Rattle.split.specs.Splitting.{split_call_checks, split_checks, split_outcome, splitting, split_reply, WorksAs, SplitAs, SplitAllowed}
+use Rattle.std.specs.Prelude.{Ok, Err}
+use Rattle.refusals.specs.declared.Refused.{Refused}
 
 module _ (ws : List ℕ) (period offset : ℕ) (answer scratch : List ℕ) where
   -- a refusal changes nothing
-  kept : {number place : ℕ} → splitting ws period offset (length answer) (length scratch) ≡ refused number place
-      → SplitAs ws period offset answer answer scratch scratch (Refused number place)
+  kept : {r : Refused} → splitting ws period offset (length answer) (length scratch) ≡ refused (number_of r.refusal) r.place
+      → SplitAs ws period offset answer answer scratch scratch (Err r)
   unfolding reply_of buffer_after scratch_after split_reply
   kept e =
       record {
@@ -46,24 +43,24 @@ module _ (ws : List ℕ) (period offset : ℕ) (answer scratch : List ℕ) where
       }
 
   -- the list is refused
-  pub list-refused : {number place : ℕ} → verdict ws ≡ ListRefused number place
-      → SplitAs ws period offset answer answer scratch scratch (Refused number place)
+  pub list-refused : {r : Refused} → verdict ws ≡ Err r
+      → SplitAs ws period offset answer answer scratch scratch (Err r)
   unfolding splitting
   list-refused v = kept (first-refused (list_checks ws) _ _ (refused→fault ws v))
 
   -- the list is accepted, and the caller's checks decide
-  module _ {n m : ℕ} (v : verdict ws ≡ Accepted n m) {f : Fault}
+  module _ {n m : ℕ} (v : verdict ws ≡ accepted n m) {f : Fault}
       (e : f ≡ first_fault (split_call_checks n m period offset (length answer) (length scratch))) where
     fault-is : f ≡ first_fault (split_call_checks (registers ws) (pair_count ws) period offset (length answer) (length scratch))
     fault-is =
         let a = accepted→none ws v in
         rw (a.list.registers_are, a.list.pairs_are) at e
 
-    pub call-refused : {number place : ℕ} → f ≡ At number place → SplitAs ws period offset answer answer scratch scratch (Refused number place)
+    pub call-refused : {r : Refused} → f ≡ Err r → SplitAs ws period offset answer answer scratch scratch (Err r)
     unfolding splitting
     call-refused g = kept (then-refused (list_checks ws) _ _ (accepted→none ws v).none (sym fault-is ∙ g))
 
-    pub call-allowed : f ≡ None → SplitAllowed ws period offset n m answer scratch
+    pub call-allowed : f ≡ no_fault → SplitAllowed ws period offset n m answer scratch
     call-allowed g =
         let a = accepted→none ws v in
         let call = split_call_checks (registers ws) (pair_count ws) period offset (length answer) (length scratch) in
@@ -99,7 +96,7 @@ module _ (ws : List ℕ) (period offset : ℕ) (answer scratch : List ℕ) where
       outcome b e =
           answered-done (split_checks ws period offset (length answer) (length scratch)) _ a.none ∙ ap (split_outcome offset) (first b e)
 
-      pub none-shown : r ≡ false → SplitAs ws period offset answer answer scratch S' NoSplit
+      pub none-shown : r ≡ false → SplitAs ws period offset answer answer scratch S' (Ok false)
       unfolding split_outcome reply_of buffer_after scratch_after split_reply works
       none-shown e =
           record {
@@ -112,8 +109,8 @@ module _ (ws : List ℕ) (period offset : ℕ) (answer scratch : List ℕ) where
 
       -- the split found works, and passes a check
       module _ (e : r ≡ true) where
-        accepted : IsAccepted ws
-        accepted = none→accepted ws (both-pass (list_checks ws) _ a.none).0
+        is-list : IsAccepted ws
+        is-list = none→accepted ws (both-pass (list_checks ws) _ a.none).0
 
         split-works : WorksAs ws period offset (timings offset (split_of (take n S)))
         unfolding works
@@ -126,11 +123,11 @@ module _ (ws : List ℕ) (period offset : ℕ) (answer scratch : List ℕ) where
               size = size;
               two = two-timings offset c;
               meets = has.0;
-              passes = admissible-passes ws period (timings offset c) accepted a.from a.upto size limit has.0;
+              passes = admissible-passes ws period (timings offset c) is-list a.from a.upto size limit has.0;
             }
 
         pub split-shown : {answer' : List ℕ} → answer' ≡ over (timings offset (split_of (take n S))) answer
-            → SplitAs ws period offset answer answer' scratch S' Split
+            → SplitAs ws period offset answer answer' scratch S' (Ok true)
         unfolding split_outcome reply_of buffer_after scratch_after split_reply
         split-shown h =
             record {

@@ -2,84 +2,61 @@
 // The contracts cite `specs/Splitting.antt`; what a split is stands in `split_laws`.
 #![tactic(auto)]
 
-ghost use Rattle.std.specs.Prelude.{◌≡◌};
+ghost use Rattle.std.specs.Prelude.{◌≡◌, Ok};
 ghost use Rattle.refusals.specs.Checks.{first_fault};
 ghost use Rattle.split.specs.Splitting.{split_call_checks, SplitAs, SplitAllowed};
 
-use list_format::Verdict;
-use refusals::Fault;
+use delay_list::DelayList;
+use refusals::{Refusal, Refused, check};
 
-// A split is in the answer buffer; none works; or a refusal with its place.
-#[derive(Clone, Copy)]
-pub enum Splitting {
-    Split,
-    NoSplit,
-    Refused(u32, usize),
-}
-
-// 3, 2 and 1, for a list of n registers and m pairs.
-fn call_fault(n: u32, m: u32, period: u32, offset: u32, room: usize, spare: usize) -> Fault
-    ensures { result ≡ first_fault (split_call_checks n m period offset room spare) }
-{
-    let need = timing::scratch_places(n as usize, m as usize);
-    Fault::None
-        .or(period == 0, 3, 0)
-        .or(period > timing::MAX_PERIOD, 3, 0)
-        .or(offset > timing::MAX_OFFSET, 3, 0)
-        .or(room < (n as usize), 2, 0)
-        .or(spare < need, 1, 0)
-}
-
-// The first split of an accepted list with n registers and m pairs; the scratch is left zero.
-fn show(
-    words: &[u32],
+// 3, 2 and 1, for an accepted list.
+#[tactic(auto, unfolding(refusals::specs::Checks::or_check, refusals::specs::Checks::fault_after))]
+fn call_fault(
+    list: DelayList,
     period: u32,
     offset: u32,
-    n: usize,
-    m: usize,
-    answer: &mut [u32],
-    scratch: &mut [u32],
-) -> Splitting
-    requires { SplitAllowed words.now period offset n m answer.old scratch.old }
-    ensures { SplitAs words.now period offset answer.old answer.new
-        scratch.old scratch.new result }
+    room: usize,
+    spare: usize,
+) -> Result<(), Refused>
+    ensures { result ≡ first_fault (split_call_checks list.entry.registers list.entry.pairs period offset room spare) }
 {
-    let end = timing::scratch_places(n, m);
-    if !propagate::decide(words, period, offset, n, m, scratch) {
-        buffers::clear(scratch, end);
-        return Splitting::NoSplit;
-    }
-    propagate::write_split(scratch, n, offset, answer);
-    buffers::clear(scratch, end);
-    Splitting::Split
+    let need = timing::scratch_places(list.registers, list.pairs);
+    check(period == 0, Refusal::Call, 0)?;
+    check(period > timing::MAX_PERIOD, Refusal::Call, 0)?;
+    check(offset > timing::MAX_OFFSET, Refusal::Call, 0)?;
+    check(room < list.registers, Refusal::Room, 0)?;
+    check(spare < need, Refusal::Scratch, 0)
 }
 
-// The first split in register order, early before late: its timings are put in the first n places of the answer buffer.
-// No split keeps that buffer. Either way 6n + 4m places of scratch are left zero; a refusal changes nothing.
+// Whether some split works, for an accepted list. If so the first one is stored; the scratch is left zero.
+fn show(list: DelayList, period: u32, offset: u32, answer: &mut [u32], scratch: &mut [u32]) -> bool
+    requires { SplitAllowed list.words.now period offset list.registers list.pairs answer.old scratch.old }
+    ensures { SplitAs list.entry.words.now period offset answer.old answer.new
+        scratch.old scratch.new (Ok result) }
+{
+    let end = timing::scratch_places(list.registers, list.pairs);
+    if !propagate::decide(list, period, offset, scratch) {
+        buffers::clear(scratch, end);
+        return false;
+    }
+    propagate::write_split(scratch, list.registers, offset, answer);
+    buffers::clear(scratch, end);
+    true
+}
+
+// Whether some split works. The timings of the first, in register order, early before late, are put in the first n places of the answer
+// buffer; where none works that buffer is kept. Either way 6n + 4m places of scratch are left zero; a refusal changes nothing.
 pub fn split(
     words: &[u32],
     period: u32,
     offset: u32,
     answer: &mut [u32],
     scratch: &mut [u32],
-) -> Splitting
+) -> Result<bool, Refused>
     ensures { SplitAs words.now period offset answer.old answer.new
         scratch.old scratch.new result }
 {
-    match delay_list::verdict(words) {
-        Verdict::Refused(number, place) => Splitting::Refused(number, place),
-        Verdict::Accepted(n, m) => match call_fault(
-            n,
-            m,
-            period,
-            offset,
-            answer.len(),
-            scratch.len(),
-        ) {
-            Fault::At(number, place) => Splitting::Refused(number, place),
-            Fault::None => show(
-                words, period, offset, n as usize, m as usize, answer, scratch,
-            ),
-        },
-    }
+    let list = DelayList::accepted(words)?;
+    call_fault(list, period, offset, answer.len(), scratch.len())?;
+    Ok(show(list, period, offset, answer, scratch))
 }

@@ -14,6 +14,8 @@ use Rattle.split_laws.specs.declared.Change.{Change}
 use Rattle.split_laws.specs.declared.Change.TheVariants.{Settled, Changed, Clash}
 use Rattle.split_laws.specs.Choices.{mark, late, opposite, row_launch, row_capture}
 use Rattle.split_laws.specs.Marks.{choice, Agrees, is_zero, unset, Kept, MarkTold, MarkStep, joined, Forced, Followed, Avoids, Applied, Seeded}
+use Rattle.std.specs.Ordering.{ord_max}
+use Rattle.split_laws.specs.contracts.ChangeOrd.TheImpl.{cmp-value}
 
 mark-range : (b : Bool) → (1 ≤ mark b) × (mark b ≤ 2)
 mark-range false = omega arith
@@ -147,3 +149,15 @@ seeded-not b f M n = step-none M (λ e. absurd (n e))
 
 pub seeded : {b f : ℕ} {M M' : List ℕ} {o : Change} → f ≡ 1 → Forced b late M M' o → Seeded b f M M' o
 seeded e h = step-as (λ c q g. q e) (λ d _. d) h
+
+-- the greater of two answers is the answer of the two steps
+pub max-joined : (a b : Change) → ord_max cmp-value.it a b ≡ joined a b
+max-joined Settled Settled = refl
+max-joined Settled Changed = refl
+max-joined Settled Clash = refl
+max-joined Changed Settled = refl
+max-joined Changed Changed = refl
+max-joined Changed Clash = refl
+max-joined Clash Settled = refl
+max-joined Clash Changed = refl
+max-joined Clash Clash = refl

@@ -3,7 +3,8 @@
 #![tactic(auto)]
 
 // What a step did to the marks: nothing was left to do, a mark was set, or a register was forced both ways.
-#[derive(Clone, Copy)]
+// Of two steps the greater one counts: a clash stays a clash, a change a change.
+#[derive(Clone, Copy, PartialEq, Eq, PartialOrd, Ord)]
 pub enum Change {
     Settled,
     Changed,

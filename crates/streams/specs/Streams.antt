@@ -1,8 +1,6 @@
 -- What was read and written, where the bytes of the reader and the writer are known.
-use Rattle.std.specs.Prelude.{ℕ, ◌≤◌, ◌<◌, List, length, take, Option, ⊤}
+use Rattle.std.specs.Prelude.{ℕ, ◌≤◌, ◌<◌, List, length, take, Option, IfSome}
 use Rattle.std.specs.Io.KnownBytes.{Consumes, IsAtEnd}
-use Rattle.streams.specs.declared.Got.{Got}
-use Rattle.streams.specs.declared.Got.TheVariants.{Bytes, Nothing}
 
 -- n bytes came, which stand in the first places of the buffer: all that the input had, where the buffer is not full
 pub record AllRead (had has : Option (List ℕ)) (buffer : List ℕ) (n : ℕ) : Type 0 where
@@ -11,6 +9,5 @@ pub record AllRead (had has : Option (List ℕ)) (buffer : List ℕ) (n : ℕ) :
   pub whole : n < length buffer → IsAtEnd has
 
 -- so it is with what was received, if no read failed
-abbrev pub ReceivedAs : Option (List ℕ) → Option (List ℕ) → List ℕ → Got → Type 0
-ReceivedAs had has buffer (Bytes n) = AllRead had has buffer n
-ReceivedAs had has buffer Nothing = ⊤
+abbrev pub ReceivedAs : Option (List ℕ) → Option (List ℕ) → List ℕ → Option ℕ → Type 0
+ReceivedAs had has buffer r = IfSome r (λ n. AllRead had has buffer n)

@@ -3,6 +3,8 @@
 // so that one that is too long is known by its length.
 #![tactic(auto)]
 
+mod programs;
+
 ghost use Rattle.std.specs.Prelude.{◌≡◌, ◌≤◌, ◌<◌, IfOk, OnOk, length, take};
 ghost use Rattle.std.specs.Io.KnownBytes.{Appends, WriteAppends};
 ghost use Rattle.list_bytes.specs.ListBytes.{max_bytes};
@@ -10,6 +12,7 @@ ghost use Rattle.scan.specs.Scan.{text_bytes};
 ghost use Rattle.streams.specs.Streams.{AllRead, ReceivedAs};
 
 use list_bytes::MAX_BYTES;
+pub use programs::{say, with_input, with_list, with_text};
 use scan::TEXT_BYTES;
 use std::env::FillError;
 use std::fs::File;
@@ -26,11 +29,7 @@ pub const PATH_MAX: usize = 4096;
 pub fn first_of<'a>(bytes: &'a [u8], count: usize) -> &'a [u8]
     ensures { result.now ≡ take count bytes.now }
 {
-    if count < bytes.len() {
-        &bytes[..count]
-    } else {
-        bytes
-    }
+    &bytes[..count.min(bytes.len())]
 }
 
 // The bytes of a list. A buffer that was filled is too long to be one.
@@ -134,27 +133,20 @@ fn read_all<R: Read>(input: &mut R, bytes: &mut [u8]) -> io::Result<usize>
     Ok(done)
 }
 
-// What reading comes to: so many bytes, or a fault that has been told.
-#[derive(Drop)]
-pub enum Got {
-    Bytes(usize),
-    Nothing,
-}
-
-// The bytes of the file with that name, or of standard input.
+// The bytes of the file with that name, or of standard input: their count, or none where a fault has been told.
 pub fn receive<R: Read, E: Write>(
     input: &mut R,
     name: &[u8],
     bytes: &mut [u8],
     errors: &mut E,
-) -> Got
+) -> Option<usize>
     ensures { ReceivedAs (R.remaining input.old) (R.remaining input.new) bytes.new result }
 {
     match read_all(input, bytes) {
-        Ok(done) => Got::Bytes(done),
+        Ok(done) => Some(done),
         Err(error) => {
             tell(errors, name, b" cannot be read", &error);
-            Got::Nothing
+            None
         }
     }
 }
@@ -219,10 +211,7 @@ pub enum Source<I, F> {
 pub fn argument<R: Env>(rt: &R, k: usize, space: &mut [u8]) -> usize
     ensures { result ≤ length space.new }
 {
-    match rt.arg(k, space) {
-        Ok(size) => size,
-        Err(_) => 0,
-    }
+    rt.arg(k, space).unwrap_or(0)
 }
 
 fn is_there<R: Env>(rt: &R, k: usize) -> bool {
@@ -251,20 +240,12 @@ fn asks_help<R: Env>(rt: &R, k: usize) -> bool {
 
 // Whether one of the arguments asks for help.
 fn help_asked<R: Env>(rt: &R, count: usize) -> bool {
-    for k in 1..count {
-        if asks_help(rt, k) {
-            return true;
-        }
-    }
-    false
+    (1..count).any(|k| asks_help(rt, k))
 }
 
 // An argument that begins with a dash is no file's name.
 fn is_name(name: &[u8]) -> bool {
-    if name.len() == 0 {
-        return false;
-    }
-    name[0] != b'-'
+    !matches!(name, [] | [b'-', ..])
 }
 
 // A file is open for reading.

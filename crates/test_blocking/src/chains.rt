@@ -1,233 +1,160 @@
 // Chains of forced choices, followed straight from the numbers and the needs of a list.
-ghost use Rattle.std.specs.Prelude.{◌^◌, ◌<◌, ◌≤◌};
-ghost use Rattle.timing.specs.Limits.{max_pairs};
+use blocking::Blocked;
+use refusals::Refused;
+use test_kit::lists::{List, Pair};
+use test_kit::places::{cleared, front, kept};
+use test_kit::tally::Fate;
 
-use blocking::Reason;
-use test_kit::places::{cleared, kept, rest};
-use test_kit::rules;
-
-// All times are below this.
-const TIMES: u32 = 1_048_576;
-
-// A choice.
-const EARLY: u32 = 0;
-
-const LATE: u32 = 1;
-
-// Where a chain stands, a register with a choice; `forced` as long as each step to there was.
-#[derive(Drop)]
-pub struct Stand {
-    pub register: u32,
-    pub choice: u32,
-    pub forced: bool,
+#[derive(Clone, Copy, PartialEq, Eq)]
+enum Choice {
+    Early,
+    Late,
 }
 
-fn forced_at(register: u32, choice: u32) -> Stand {
-    Stand {
-        register,
-        choice,
-        forced: true,
+impl Choice {
+    // A choice by a digit in base two.
+    fn of(digit: u32) -> Choice {
+        if digit == 0 {
+            Choice::Early
+        } else {
+            Choice::Late
+        }
+    }
+
+    fn opposite(self) -> Choice {
+        match self {
+            Choice::Early => Choice::Late,
+            Choice::Late => Choice::Early,
+        }
+    }
+
+    fn time(self, offset: u32) -> u64 {
+        match self {
+            Choice::Early => 0,
+            Choice::Late => u64::from(offset),
+        }
     }
 }
 
-fn nowhere() -> Stand {
-    Stand {
-        register: 0,
-        choice: EARLY,
-        forced: false,
-    }
-}
-
-fn opposite(choice: u32) -> u32 {
-    if choice == EARLY { LATE } else { EARLY }
-}
-
-fn time(choice: u32, offset: u32) -> u32 {
-    if choice == LATE { offset } else { 0 }
-}
-
-// Whether pair k with these choices of its ends breaks setup or hold.
-fn breaks(
-    numbers: &[u32],
-    needs: &[u32],
-    k: usize,
-    launch: u32,
-    capture: u32,
-    period: u32,
-    offset: u32,
-) -> bool {
-    let b = rules::number(numbers, k, 1);
-    let from = time(launch, offset) as u64;
-    let to = time(capture, offset) as u64;
-    let least = rules::number(numbers, k, 2) as u64;
-    let greatest = rules::number(numbers, k, 3) as u64;
-    if from + greatest + (rules::setup_of(needs, b) as u64) > to + (period as u64) {
-        return true;
-    }
-    to + (rules::hold_of(needs, b) as u64) > from + least
-}
-
-// Where a step leads, which names a pair and its row.
-fn follow(
-    numbers: &[u32],
-    needs: &[u32],
-    m: usize,
-    step: u32,
-    period: u32,
-    offset: u32,
-    at: Stand,
-) -> Stand {
-    let k = (step / 4) as usize;
-    let launch = step % 4 / 2;
-    let capture = step % 2;
-    if !at.forced || k >= m || !breaks(numbers, needs, k, launch, capture, period, offset) {
-        return nowhere();
-    }
-    let a = rules::number(numbers, k, 0);
-    let b = rules::number(numbers, k, 1);
-    if at.register == a && at.choice == launch {
-        return forced_at(b, opposite(capture));
-    }
-    if at.register == b && at.choice == capture {
-        return forced_at(a, opposite(launch));
-    }
-    nowhere()
-}
-
-// Whether the first `count` steps lead a register from a choice to the opposite one.
-fn leads(
-    numbers: &[u32],
-    needs: &[u32],
-    m: usize,
-    steps: &[u32],
-    count: usize,
-    period: u32,
-    offset: u32,
+// Where a chain stands, a register with a choice.
+#[derive(Clone, Copy, PartialEq, Eq)]
+struct Stand {
     register: u32,
-    choice: u32,
-) -> bool {
-    let mut at = forced_at(register, choice);
-    for i in 0..count {
-        let step = rules::at(steps, i);
-        at = follow(numbers, needs, m, step, period, offset, at);
+    choice: Choice,
+}
+
+impl Stand {
+    fn opposite(self) -> Stand {
+        Stand {
+            register: self.register,
+            choice: self.choice.opposite(),
+        }
     }
-    at.forced && at.register == register && at.choice == opposite(choice)
+}
+
+// A list at a period and an offset.
+#[derive(Clone, Copy)]
+struct Trial<'a> {
+    list: List<'a>,
+    period: u32,
+    offset: u32,
+}
+
+impl<'a> Trial<'a> {
+    // Whether a pair with these choices of its ends breaks setup or hold.
+    fn breaks(self, pair: Pair, launch: Choice, capture: Choice) -> bool {
+        let [_, register, least, greatest] = pair;
+        let [hold, setup] = self.list.needs_of(register);
+        let from = launch.time(self.offset);
+        let to = capture.time(self.offset);
+        from + u64::from(greatest) + u64::from(setup) > to + u64::from(self.period)
+            || to + u64::from(hold) > from + u64::from(least)
+    }
+
+    // Where a step leads, which names a pair and its row, if it is a forced one from there.
+    fn follow(self, at: Stand, step: u32) -> Option<Stand> {
+        let pair = *self.list.pairs.get((step / 4) as usize)?;
+        let launch = Stand {
+            register: pair[0],
+            choice: Choice::of(step % 4 / 2),
+        };
+        let capture = Stand {
+            register: pair[1],
+            choice: Choice::of(step % 2),
+        };
+        if !self.breaks(pair, launch.choice, capture.choice) {
+            return None;
+        }
+        if at == launch {
+            return Some(capture.opposite());
+        }
+        (at == capture).then_some(launch.opposite())
+    }
+
+    // Whether steps lead a register from a choice to the opposite one.
+    fn leads(self, steps: &[u32], register: u32, choice: Choice) -> bool {
+        let start = Stand { register, choice };
+        let mut at = start;
+        for step in steps {
+            let Some(next) = self.follow(at, *step) else {
+                return false;
+            };
+            at = next;
+        }
+        at == start.opposite()
+    }
 }
 
 // A chain has from 1 to 2n - 1 steps.
 fn sized(n: u32, count: u32) -> bool {
-    1 <= count && (count as u64) < 2 * (n as u64)
+    1 <= count && u64::from(count) < 2 * u64::from(n)
 }
 
 // Whether the first places of the answer buffer hold two chains of such lengths at a register, and the later ones are as they were.
-pub fn shown(
-    numbers: &[u32],
-    needs: &[u32],
-    n: u32,
-    m: usize,
-    period: u32,
-    answer: &[u32],
-    register: u32,
-    first: u32,
-    second: u32,
-) -> bool {
-    let offset = lacking(numbers, needs, m, period);
-    if register >= n || !sized(n, first) || !sized(n, second) {
+fn shown(list: List<'_>, period: u32, answer: &[u32], b: Blocked) -> bool {
+    let trial = Trial {
+        list,
+        period,
+        offset: common(list).saturating_sub(period),
+    };
+    let n = list.registers();
+    let Some((first, back)) = answer.split_at_checked(b.first as usize) else {
         return false;
-    }
-    let back = rest(answer, first as usize);
-    leads(
-        numbers,
-        needs,
-        m,
-        answer,
-        first as usize,
-        period,
-        offset,
-        register,
-        EARLY,
-    ) && leads(
-        numbers,
-        needs,
-        m,
-        back,
-        second as usize,
-        period,
-        offset,
-        register,
-        LATE,
-    ) && kept(back, second as usize)
+    };
+    b.register < n
+        && sized(n, b.first)
+        && sized(n, b.second)
+        && trial.leads(first, b.register, Choice::Early)
+        && trial.leads(front(back, b.second as usize), b.register, Choice::Late)
+        && kept(back, b.second as usize)
 }
 
-// The setup that pair k asks for.
-fn asked(numbers: &[u32], needs: &[u32], k: usize) -> u32
-    ensures { result < 2 ^ 21 }
-{
-    let b = rules::number(numbers, k, 1);
-    rules::number(numbers, k, 3) % TIMES + rules::setup_of(needs, b) % TIMES
-}
-
-fn larger(a: u32, b: u32) -> u32
-    requires { (a < 2 ^ 21) × (b < 2 ^ 21) }
-    ensures { result < 2 ^ 21 }
-{
-    if a > b { a } else { b }
-}
-
-// The common period.
-pub fn common(numbers: &[u32], needs: &[u32], m: usize) -> u32
-    ensures { result < 2 ^ 21 }
-{
+// The common period: the longest that a pair asks for setup.
+pub fn common(list: List<'_>) -> u32 {
     let mut most: u32 = 1;
-    for k in 0..m {
-        let asks = asked(numbers, needs, k);
-        most = larger(asks, most);
+    for p in list.pairs {
+        let [_, capture, _, greatest] = *p;
+        let [_, setup] = list.needs_of(capture);
+        most = most.max(greatest.saturating_add(setup));
     }
     most
 }
 
-// The common period less this one, or 0.
-fn lacking(numbers: &[u32], needs: &[u32], m: usize, period: u32) -> u32 {
-    let most = common(numbers, needs, m);
-    if most > period { most - period } else { 0 }
-}
-
-// How a call fared.
-const WORKABLE: u32 = 0;
-
-const BLOCKED: u32 = 1;
-
-pub const WRONG: u32 = 2;
-
-fn told(right: bool, fate: u32) -> u32 {
-    if right { fate } else { WRONG }
-}
-
-// How a call fared at a period at which some split works, or none.
+// How a call fared at a period at which some split works, which makes it void, or none.
 pub fn fate(
     works: bool,
-    r: Reason,
-    numbers: &[u32],
-    needs: &[u32],
-    n: u32,
-    m: usize,
+    said: Result<Option<Blocked>, Refused>,
+    list: List<'_>,
     period: u32,
     answer: &[u32],
     scratch: &[u32],
-) -> u32
-    requires { m ≤ max_pairs }
-{
-    if !cleared(scratch, 6 * (n as usize) + 4 * m) {
-        return WRONG;
+) -> Fate {
+    if !cleared(scratch, list.scratch()) {
+        return Fate::Wrong;
     }
-    match r {
-        Reason::Refused(_, _) => WRONG,
-        Reason::Workable => told(works && kept(answer, 0), WORKABLE),
-        Reason::Blocked(register, first, second) => {
-            let right = shown(
-                numbers, needs, n, m, period, answer, register, first, second,
-            );
-            told(!works && right, BLOCKED)
-        }
+    match said {
+        Ok(None) if works && kept(answer, 0) => Fate::Void,
+        Ok(Some(blocked)) if !works => Fate::from(shown(list, period, answer, blocked)),
+        _ => Fate::Wrong,
     }
 }

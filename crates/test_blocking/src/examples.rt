@@ -1,56 +1,53 @@
 // Worked examples, and what is refused.
-use blocking::Reason;
+use blocking::Blocked;
+use refusals::Refused;
 use std::io;
-use test_kit::lists::{TWICE, needy};
+use test_kit::lists::{List, P, P_NEEDS, TWICE, needless, needy};
 use test_kit::places::{DIRT, front, kept};
 use test_kit::show;
 
-fn show_reason(rt: &impl Print, r: Reason) -> io::Result<()> {
+fn show_reason(rt: &impl Print, r: Result<Option<Blocked>, Refused>) -> io::Result<()> {
     match r {
-        Reason::Workable => show::text(rt, "workable\n"),
-        Reason::Blocked(register, first, second) => {
-            show::text(rt, "blocked at ")?;
-            show::count(rt, register, " by ")?;
-            show::count(rt, first, " and ")?;
-            show::count(rt, second, " steps\n")
-        }
-        Reason::Refused(code, place) => show::refusal(rt, code, place),
+        Err(refused) => show::refusal(rt, refused),
+        Ok(None) => rt.println("workable"),
+        Ok(
+            Some(
+                Blocked {
+                    register,
+                    first,
+                    second,
+                },
+            ),
+        ) => println!(rt; "blocked at {register} by {first} and {second} steps"),
     }
 }
 
 // A list at a period, with two places more than the answer of two registers takes, which held 9.
-fn try_at(
-    rt: &impl Print,
-    label: &str,
-    n: u32,
-    numbers: &[u32],
-    needs: &[u32],
-    period: u32,
-) -> io::Result<()> {
+fn try_at(rt: &impl Print, label: &str, list: List<'_>, period: u32) -> io::Result<()> {
     let mut words = [0u32; 16];
     let mut answer = [9u32; 10];
     let mut scratch = [9u32; 32];
-    let count = needy(n, numbers, needs, &mut words);
-    show::text(rt, label)?;
+    let given = list.write(&mut words);
+    rt.print(label)?;
     show_reason(
         rt,
-        blocking::why_not(front(&words, count), period, &mut answer, &mut scratch),
+        blocking::why_not(given, period, &mut answer, &mut scratch),
     )?;
-    show::numbers(rt, &answer, 10)
+    show::numbers(rt, &answer)
 }
 
 pub fn answers(rt: &impl Print) -> io::Result<()> {
-    let p = [0u32, 1, 7, 10, 1, 0, 1, 3];
-    let none = [0u32; 4];
-    let needs = [1u32, 2, 2, 1];
-    try_at(rt, "P at 6: ", 2, &p, &none, 6)?;
-    try_at(rt, "P at 7: ", 2, &p, &none, 7)?;
-    try_at(rt, "P at 1009999: ", 2, &p, &none, 1_009_999)?;
-    try_at(rt, "P with needs at 7: ", 2, &p, &needs, 7)?;
-    try_at(rt, "P with needs at 8: ", 2, &p, &needs, 8)?;
-    try_at(rt, "0-0 0/5 at 4: ", 1, &[0u32, 0, 0, 5], &[0u32, 0], 4)?;
-    try_at(rt, "0-0 0/5 at 5: ", 1, &[0u32, 0, 0, 5], &[0u32, 0], 5)?;
-    try_at(rt, "no pairs at 1: ", 2, &[], &none, 1)
+    let p = needless(2, &P);
+    let with_needs = needy(&P, &P_NEEDS);
+    let own = needless(1, &[[0, 0, 0, 5]]);
+    try_at(rt, "P at 6: ", p, 6)?;
+    try_at(rt, "P at 7: ", p, 7)?;
+    try_at(rt, "P at 1009999: ", p, 1_009_999)?;
+    try_at(rt, "P with needs at 7: ", with_needs, 7)?;
+    try_at(rt, "P with needs at 8: ", with_needs, 8)?;
+    try_at(rt, "0-0 0/5 at 4: ", own, 4)?;
+    try_at(rt, "0-0 0/5 at 5: ", own, 5)?;
+    try_at(rt, "no pairs at 1: ", needless(2, &[]), 1)
 }
 
 // A call with so many words of P, and whether both buffers are kept.
@@ -63,14 +60,11 @@ fn refused(
     scratch: &mut [u32],
 ) -> io::Result<()> {
     let mut words = [0u32; 8];
-    needy(2, &[0u32, 1, 7, 10, 1, 0, 1, 3], &[0u32; 4], &mut words);
-    show::text(rt, label)?;
-    show_reason(
-        rt,
-        blocking::why_not(front(&words, count), period, answer, scratch),
-    )?;
+    let given = front(needless(2, &P).write(&mut words), count);
+    rt.print(label)?;
+    show_reason(rt, blocking::why_not(given, period, answer, scratch))?;
     if !kept(answer, 0) || !kept(scratch, 0) {
-        show::text(rt, "a buffer was changed\n")?;
+        rt.println("a buffer was changed")?;
     }
     Ok(())
 }
@@ -98,7 +92,7 @@ fn scratch_short(rt: &impl Print, label: &str, period: u32) -> io::Result<()> {
 fn twice(rt: &impl Print) -> io::Result<()> {
     let mut answer = [DIRT; 7];
     let mut scratch = [DIRT; 19];
-    show::text(rt, "0-1 twice: ")?;
+    rt.print("0-1 twice: ")?;
     show_reason(rt, blocking::why_not(&TWICE, 0, &mut answer, &mut scratch))
 }
 

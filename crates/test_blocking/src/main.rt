@@ -6,7 +6,6 @@
 mod chains;
 mod examples;
 mod large;
-mod order;
 mod small;
 
 use std::io;

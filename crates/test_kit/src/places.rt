@@ -2,68 +2,37 @@
 // Stands in every place of a buffer before a call.
 pub const DIRT: u32 = 0xDEAD_BEEF;
 
-pub fn dirty(buffer: &mut [u32]) {
-    for x in buffer.iter_mut() {
-        *x = DIRT;
-    }
-}
-
 // Whether two buffers hold the same in their first `count` places.
 pub fn same(a: &[u32], b: &[u32], count: usize) -> bool {
-    for i in 0..count {
-        if a.len() <= i {
-            return false;
-        }
-        if b.len() <= i {
-            return false;
-        }
-        if a[i] != b[i] {
-            return false;
-        }
-    }
-    true
+    a.get(..count).is_some_and(|x| b.starts_with(x))
 }
 
 // Whether the places from `from` on are as they were made dirty.
 pub fn kept(buffer: &[u32], from: usize) -> bool {
-    for i in from..buffer.len() {
-        if buffer[i] != DIRT {
-            return false;
-        }
-    }
-    true
+    buffer.iter().skip(from).all(|x| *x == DIRT)
+}
+
+// Whether a buffer holds these and is kept behind them.
+pub fn holds(buffer: &[u32], expected: &[u32]) -> bool {
+    buffer.starts_with(expected) && kept(buffer, expected.len())
 }
 
 // Whether a scratch is zero in its first `count` places, and kept behind.
 pub fn cleared(scratch: &[u32], count: usize) -> bool {
-    zero(scratch, count) && kept(scratch, count)
+    scratch.get(..count).is_some_and(zero) && kept(scratch, count)
 }
 
 // The first `count` places, or all if there are fewer.
-pub fn front(s: &[u32], count: usize) -> &[u32] {
-    if count <= s.len() {
-        return &s[..count];
-    }
-    s
+pub fn front<T>(s: &[T], count: usize) -> &[T] {
+    s.get(..count).unwrap_or(s)
 }
 
 // The places from `from` on, or all if there are fewer.
-pub fn rest(s: &[u32], from: usize) -> &[u32] {
-    if from <= s.len() {
-        return &s[from..];
-    }
-    s
+pub fn rest<T>(s: &[T], from: usize) -> &[T] {
+    s.get(from..).unwrap_or(s)
 }
 
-// Whether the first `count` places are zero.
-pub fn zero(buffer: &[u32], count: usize) -> bool {
-    for i in 0..count {
-        if buffer.len() <= i {
-            return false;
-        }
-        if buffer[i] != 0 {
-            return false;
-        }
-    }
-    true
+// Whether all places are zero.
+pub fn zero(buffer: &[u32]) -> bool {
+    buffer.iter().all(|x| *x == 0)
 }

@@ -1,167 +1,86 @@
-// The rules of a list straight from its numbers and its needs, and schedules counted through one by one.
-ghost use Rattle.std.specs.Prelude.{◌≤◌};
-ghost use Rattle.timing.specs.Limits.{max_pairs};
+// The rules of a list straight from its numbers and its needs, and its splits.
+use crate::lists::{List, Pair};
+use crate::places::{kept, same};
+use refusals::Refused;
+use timing::{PER_PAIR, PER_REGISTER};
 
-use timing::MAX_PAIRS;
+// The registers of a list whose splits are searched at the most, and how many splits they have.
+pub const SPLIT: usize = 6;
 
-// The splits of the six registers that are searched at the most.
 const SPLITS: u32 = 64;
 
-// The number at a place, or 0.
-pub fn at(xs: &[u32], i: usize) -> u32 {
-    if i < xs.len() {
-        return xs[i];
+// The timing of a register, or 0.
+pub fn at(s: &[u32], register: u32) -> u32 {
+    s.get(register as usize).copied().unwrap_or(0)
+}
+
+impl<'a> List<'a> {
+    // What is left of the period after a pair's setup, below 0 where the rule is broken.
+    pub fn setup_margin(self, pair: Pair, period: u32, s: &[u32]) -> i64 {
+        let [launch, capture, _, greatest] = pair;
+        let [_, setup] = self.needs_of(capture);
+        let end = u64::from(at(s, capture)) + u64::from(period);
+        let data = u64::from(at(s, launch)) + u64::from(greatest) + u64::from(setup);
+        (end as i64) - (data as i64)
     }
-    0
-}
 
-// Number j of pair k, of as many pairs as a list can have.
-pub fn number(numbers: &[u32], k: usize, j: usize) -> u32 {
-    at(numbers, 4 * (k % MAX_PAIRS) + j % 4)
-}
-
-// What a register needs after the tick, and before it.
-pub fn hold_of(needs: &[u32], register: u32) -> u32 {
-    at(needs, 2 * (register as usize))
-}
-
-pub fn setup_of(needs: &[u32], register: u32) -> u32 {
-    at(needs, 2 * (register as usize) + 1)
-}
-
-// A margin, as a word of 64 bits that wraps below 0, and its place: the pair twice over, and one more for hold.
-#[derive(Drop)]
-pub struct Margin {
-    pub word: u64,
-    pub place: usize,
-}
-
-// Words from here on are below 0.
-const BELOW: u64 = 0x8000_0000_0000_0000;
-
-// Whether a margin is smaller than another, by their signs.
-fn lower(a: u64, b: u64) -> bool {
-    std::num::wrapping_add_u64(a, BELOW) < std::num::wrapping_add_u64(b, BELOW)
-}
-
-fn setup_margin(numbers: &[u32], needs: &[u32], k: usize, period: u32, s: &[u32]) -> u64 {
-    let capture = number(numbers, k, 1);
-    let greatest = number(numbers, k, 3);
-    let a = at(s, number(numbers, k, 0) as usize);
-    let b = at(s, capture as usize);
-    std::num::wrapping_sub_u64(
-        (b as u64) + (period as u64),
-        (a as u64) + (greatest as u64) + (setup_of(needs, capture) as u64),
-    )
-}
-
-fn hold_margin(numbers: &[u32], needs: &[u32], k: usize, s: &[u32]) -> u64 {
-    let capture = number(numbers, k, 1);
-    let least = number(numbers, k, 2);
-    let a = at(s, number(numbers, k, 0) as usize);
-    let b = at(s, capture as usize);
-    std::num::wrapping_sub_u64(
-        (a as u64) + (least as u64),
-        (b as u64) + (hold_of(needs, capture) as u64),
-    )
-}
-
-fn lowest(m: Margin, word: u64, place: usize) -> Margin {
-    if lower(word, m.word) {
-        return Margin { word, place };
+    // What is left of a pair's least delay after its hold.
+    pub fn hold_margin(self, pair: Pair, s: &[u32]) -> i64 {
+        let [launch, capture, least, _] = pair;
+        let [hold, _] = self.needs_of(capture);
+        let data = u64::from(at(s, launch)) + u64::from(least);
+        let end = u64::from(at(s, capture)) + u64::from(hold);
+        (data as i64) - (end as i64)
     }
-    m
-}
 
-// The smallest margin of all, the first of those that are the same; the largest there is if there are no pairs.
-pub fn smallest(numbers: &[u32], needs: &[u32], m: usize, period: u32, s: &[u32]) -> Margin
-    requires { m ≤ max_pairs }
-{
-    let mut low = Margin {
-        word: BELOW - 1,
-        place: 0,
-    };
-    for k in 0..m {
-        low = lowest(low, setup_margin(numbers, needs, k, period, s), 2 * k);
-        low = lowest(low, hold_margin(numbers, needs, k, s), 2 * k + 1);
+    // Whether a schedule breaks no rule at a period.
+    pub fn admits(self, period: u32, s: &[u32]) -> bool {
+        self.pairs.iter().all(|p| self.setup_margin(*p, period, s) >= 0
+            && self.hold_margin(*p, s) >= 0)
     }
-    low
-}
 
-// The first pair that breaks a rule, twice over, and one more if only hold is broken; twice m if there is none.
-pub fn broken(numbers: &[u32], needs: &[u32], m: usize, period: u32, s: &[u32]) -> usize
-    requires { m ≤ max_pairs }
-{
-    for k in 0..m {
-        if setup_margin(numbers, needs, k, period, s) >= BELOW {
-            return 2 * k;
+    // The places of scratch that a split or a plan takes.
+    pub fn scratch(self) -> usize {
+        let registers = self.needs.len().saturating_mul(PER_REGISTER);
+        registers.saturating_add(self.pairs.len().saturating_mul(PER_PAIR))
+    }
+
+    // The timings of the first split that works at a period and an offset.
+    pub fn first_split(self, period: u32, offset: u32) -> Option<[u32; SPLIT]> {
+        let n = self.needs.len().min(SPLIT);
+        for v in 0..SPLITS {
+            let s = split(v, n, offset);
+            if self.admits(period, &s) {
+                return Some(s);
+            }
         }
-        if hold_margin(numbers, needs, k, s) >= BELOW {
-            return 2 * k + 1;
+        None
+    }
+
+    // Whether a call came to the first split, whose timings stand in the first places of the answer; or to none, and all places are kept.
+    pub fn is_first_split(
+        self,
+        period: u32,
+        offset: u32,
+        said: Result<bool, Refused>,
+        answer: &[u32],
+    ) -> bool {
+        let n = self.needs.len();
+        match (said, self.first_split(period, offset)) {
+            (Ok(true), Some(s)) => same(answer, &s, n) && kept(answer, n),
+            (Ok(false), None) => kept(answer, 0),
+            _ => false,
         }
     }
-    2 * m
-}
-
-// One more at place i; 0 and false if it stands at the most already.
-fn bump(s: &mut [u32], i: usize, most: u32) -> bool {
-    if s.len() <= i {
-        return false;
-    }
-    if s[i] < most {
-        s[i] = s[i] + 1;
-        return true;
-    }
-    s[i] = 0;
-    false
-}
-
-// The next schedule of n registers with timings up to most; false after the last.
-pub fn advance(s: &mut [u32], n: usize, most: u32) -> bool {
-    for i in 0..n {
-        if bump(s, i, most) {
-            return true;
-        }
-    }
-    false
-}
-
-fn set(s: &mut [u32], i: usize, v: u32) {
-    if i < s.len() {
-        s[i] = v;
-    }
-}
-
-fn timing_of(offset: u32, choice: u32) -> u32 {
-    if choice == 1 { offset } else { 0 }
 }
 
 // The timings of split v of n registers: its last digit in base two is the last register's choice.
-fn timings(v: u32, n: usize, offset: u32, s: &mut [u32]) {
-    let mut rest = v;
-    for i in (0..n).rev() {
-        set(s, i, timing_of(offset, rest % 2));
-        rest = rest / 2;
+fn split(v: u32, n: usize, offset: u32) -> [u32; SPLIT] {
+    let mut s = [0; SPLIT];
+    let mut digits = v;
+    for x in s.iter_mut().take(n).rev() {
+        *x = digits % 2 * offset;
+        digits /= 2;
     }
-}
-
-// The first split of n registers that works, up to six of them; its timings are left in s. False if none does.
-pub fn first_split(
-    numbers: &[u32],
-    needs: &[u32],
-    n: usize,
-    m: usize,
-    period: u32,
-    offset: u32,
-    s: &mut [u32],
-) -> bool
-    requires { m ≤ max_pairs }
-{
-    for v in 0..SPLITS {
-        timings(v, n, offset, s);
-        if broken(numbers, needs, m, period, s) == 2 * m {
-            return true;
-        }
-    }
-    false
+    s
 }

@@ -1,22 +1,23 @@
 // Worked examples: lists that pass, and each refusal with its place.
 use crate::show::{reading, writing};
 use std::io;
+use test_kit::lists::seal;
 use test_kit::show;
 
 // Reads a list into sixteen places that hold 9, and shows the answer and the first fourteen places.
 fn read(rt: &impl Print, label: &str, words: &[u32]) -> io::Result<()> {
     let mut answer = [9u32; 16];
-    show::text(rt, label)?;
+    rt.print(label)?;
     reading(rt, read_list::read(words, &mut answer))?;
-    show::numbers(rt, &answer, 14)
+    show::numbers(rt, &answer[..14])
 }
 
 // Writes a list into twelve places that hold 9, and shows the answer and the first eleven places.
 fn write(rt: &impl Print, label: &str, n: u32, numbers: &[u32], needs: &[u32]) -> io::Result<()> {
     let mut answer = [9u32; 12];
-    show::text(rt, label)?;
+    rt.print(label)?;
     writing(rt, write_list::write(n, numbers, needs, &mut answer))?;
-    show::numbers(rt, &answer, 11)
+    show::numbers(rt, &answer[..11])
 }
 
 // Lists that pass. List P is 0-1 7/10 and 1-0 1/3.
@@ -98,7 +99,7 @@ fn pair(
         greatest,
         0,
     ];
-    list[4] = words::word_of(words::KIND_END, words::end_payload(&list, 4));
+    seal(&mut list);
     read(rt, label, &list)
 }
 
@@ -120,7 +121,7 @@ fn needy_pair(
         greatest,
         0,
     ];
-    list[6] = words::word_of(words::KIND_END, words::end_payload(&list, 6));
+    seal(&mut list);
     read(rt, label, &list)
 }
 
@@ -373,7 +374,7 @@ fn three_pairs(
         0x8000_000A,
         0,
     ];
-    list[10] = words::word_of(words::KIND_END, words::end_payload(&list, 10));
+    seal(&mut list);
     read(rt, label, &list)
 }
 
@@ -414,8 +415,8 @@ fn twice(rt: &impl Print, label: &str, least: u32, greatest: u32, more: u32) -> 
         greatest,
         0,
     ];
-    let end = words::word_of(words::KIND_END, words::end_payload(&list, 9));
-    list[9] = std::num::wrapping_add_u32(end, more);
+    seal(&mut list);
+    list[9] = list[9].wrapping_add(more);
     read(rt, label, &list)
 }
 

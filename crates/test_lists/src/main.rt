@@ -6,6 +6,8 @@ mod show;
 mod trips;
 
 use std::io;
+use timing::MAX_NEED;
+use trips::Damage;
 
 fn main(rt: HostRuntime) -> io::Result<()> {
     examples::lists(&rt)?;
@@ -24,17 +26,17 @@ fn main(rt: HostRuntime) -> io::Result<()> {
     examples::refused_needs(&rt)?;
     examples::refused_holds(&rt)?;
     examples::refused_orders(&rt)?;
-    trips::small(&rt, "random lists: ", 0, 0)?;
-    trips::small(&rt, "one word changed: ", 1, 0)?;
-    trips::small(&rt, "two words changed, the sum kept: ", 2, 0)?;
-    trips::small(&rt, "random lists with needs: ", 0, timing::MAX_NEED)?;
-    trips::small(&rt, "one word changed: ", 1, timing::MAX_NEED)?;
+    trips::small(&rt, "random lists: ", Damage::None, 0)?;
+    trips::small(&rt, "one word changed: ", Damage::One, 0)?;
+    trips::small(&rt, "two words changed, the sum kept: ", Damage::Two, 0)?;
+    trips::small(&rt, "random lists with needs: ", Damage::None, MAX_NEED)?;
+    trips::small(&rt, "one word changed: ", Damage::One, MAX_NEED)?;
     trips::small(
         &rt,
         "two words changed, the sum kept: ",
-        2,
-        timing::MAX_NEED,
+        Damage::Two,
+        MAX_NEED,
     )?;
     trips::largest(&rt, "512 registers, 2048 pairs, words there and back: ", 0)?;
-    trips::largest(&rt, "the same with needs: ", timing::MAX_NEED)
+    trips::largest(&rt, "the same with needs: ", MAX_NEED)
 }

@@ -1,24 +1,19 @@
 // The answers of reading and writing, as text.
-use list_format::{Reading, Writing};
+use list_format::Counts;
+use refusals::Refused;
 use std::io;
 use test_kit::show;
 
-pub fn reading(rt: &impl Print, r: Reading) -> io::Result<()> {
+pub fn reading(rt: &impl Print, r: Result<Counts, Refused>) -> io::Result<()> {
     match r {
-        Reading::Refused(n, place) => show::refusal(rt, n, place),
-        Reading::Read(n, m) => {
-            show::count(rt, n, " registers, ")?;
-            show::count(rt, m, " pairs\n")
-        }
+        Err(refused) => show::refusal(rt, refused),
+        Ok(Counts { registers, pairs }) => println!(rt; "{registers} registers, {pairs} pairs"),
     }
 }
 
-pub fn writing(rt: &impl Print, r: Writing) -> io::Result<()> {
+pub fn writing(rt: &impl Print, r: Result<usize, Refused>) -> io::Result<()> {
     match r {
-        Writing::Refused(n, place) => show::refusal(rt, n, place),
-        Writing::Written(words) => {
-            show::number(rt, words as u64)?;
-            show::text(rt, " words\n")
-        }
+        Err(refused) => show::refusal(rt, refused),
+        Ok(words) => println!(rt; "{words} words"),
     }
 }

@@ -1,63 +1,66 @@
-// A plain search over small schedules.
-ghost use Rattle.std.specs.Prelude.{◌≤◌};
-ghost use Rattle.timing.specs.Limits.{max_pairs};
+// What the free schedule and the check are to say, plainly.
+use checker::{Checking, Rule, Smallest};
+use test_kit::lists::List;
+use test_kit::schedules::Schedules;
+use test_kit::tally::Fate;
 
-use test_kit::rules::{advance, at, broken};
+// The most registers.
+const REGISTERS: usize = 3;
 
-// How many schedules are gone through at the most.
-const SCHEDULES: u32 = 100_000;
+// Whether some schedule of timings up to `most` breaks no rule.
+pub fn admitted(list: List<'_>, period: u32, most: u32) -> bool {
+    Schedules::<REGISTERS>::new(list.registers(), most).any(|s| list.admits(period, &s))
+}
 
-// Whether no register of the first n is later in a than in b.
-fn below(a: &[u32], b: &[u32], n: usize) -> bool {
-    for i in 0..n {
-        if at(b, i) < at(a, i) {
-            return false;
+// Of all such schedules: right if `best` is nowhere later than one of them, wrong if it is, void if there are none.
+pub fn earliest(list: List<'_>, period: u32, most: u32, best: &[u32]) -> Fate {
+    let mut found = Fate::Void;
+    for s in Schedules::<REGISTERS>::new(list.registers(), most) {
+        if list.admits(period, &s) {
+            if s.iter().zip(best).any(|(x, b)| x < b) {
+                return Fate::Wrong;
+            }
+            found = Fate::Right;
         }
     }
-    true
+    found
 }
 
-// Of one schedule: 0 if it breaks a rule, 1 if it works and `best` is nowhere later, 2 if it works and is somewhere earlier.
-fn judged(
-    numbers: &[u32],
-    needs: &[u32],
-    n: usize,
-    m: usize,
-    period: u32,
-    s: &[u32],
-    best: &[u32],
-) -> u32
-    requires { m ≤ max_pairs }
-{
-    if broken(numbers, needs, m, period, s) < 2 * m {
-        return 0;
+// What a check is to say of a schedule.
+pub fn checked(list: List<'_>, period: u32, s: &[u32]) -> Checking {
+    match (smallest(list, period, s), broken(list, period, s)) {
+        (None, _) => Checking::NoPairs,
+        (Some(low), None) => Checking::Admissible(low),
+        (Some(low), Some((pair, rule))) => Checking::Broken(pair, rule, low),
     }
-    if below(best, s, n) { 1 } else { 2 }
 }
 
-fn larger(a: u32, b: u32) -> u32 {
-    if a < b { b } else { a }
+// The first of the smallest margins, setup's before hold's.
+fn smallest(list: List<'_>, period: u32, s: &[u32]) -> Option<Smallest> {
+    let mut low = None;
+    for (pair, p) in list.pairs.iter().enumerate() {
+        low = lower(low, list.setup_margin(*p, period, s), pair, Rule::Setup);
+        low = lower(low, list.hold_margin(*p, s), pair, Rule::Hold);
+    }
+    low
 }
 
-// The most of that over all schedules of timings up to most.
-pub fn searched(
-    numbers: &[u32],
-    needs: &[u32],
-    n: usize,
-    m: usize,
-    period: u32,
-    most: u32,
-    best: &[u32],
-    s: &mut [u32],
-) -> u32
-    requires { m ≤ max_pairs }
-{
-    let mut found = 0;
-    for _ in 0..SCHEDULES {
-        found = larger(found, judged(numbers, needs, n, m, period, s, best));
-        if !advance(s, n, most) {
-            return found;
+fn lower(low: Option<Smallest>, margin: i64, pair: usize, rule: Rule) -> Option<Smallest> {
+    match low {
+        Some(x) if x.margin <= margin => low,
+        _ => Some(Smallest { margin, pair, rule }),
+    }
+}
+
+// The first pair that breaks a rule, and the rule, setup if it breaks both.
+fn broken(list: List<'_>, period: u32, s: &[u32]) -> Option<(usize, Rule)> {
+    for (pair, p) in list.pairs.iter().enumerate() {
+        if list.setup_margin(*p, period, s) < 0 {
+            return Some((pair, Rule::Setup));
+        }
+        if list.hold_margin(*p, s) < 0 {
+            return Some((pair, Rule::Hold));
         }
     }
-    2
+    None
 }

@@ -1,12 +1,12 @@
 -- Pieces of text stored one after the other make one piece.
-use Prim.Native.Nat.{ℕ, zero, suc, ◌+◌, ◌*◌, ◌≤◌, ◌<◌}
+use Prim.Native.Nat.{ℕ, ◌+◌, ◌*◌, ◌≤◌, ◌<◌}
 use mathlib.Core.List.{List, [], ◌∷◌, ◌++◌, append_assoc, append-nil}
 use mathlib.Core.Path.{◌≡◌, refl, sym, ◌∙◌, ap}
 use native.Mathlib.Nat.{mul-zero, mul-suc, mul-le-mul_left}
 use native.Mathlib.Numerals.{add-one}
 use native.Mathlib.Omega.{arith}
-use lib.ListN.{length, take, drop, get_or, set, length-append}
-use lib.Seq.{length-take-le, take-length, take-suc}
+use lib.ListN.{length, take, drop, set, length-append}
+use lib.Seq.{length-take-le}
 use Rattle.buffers.specs.Run.{run}
 use Rattle.buffers.specs.Over.{over}
 use Rattle.buffers.proofs.FillLaws.{Filled, filled-self, filled-size, filled_put, set-put}
@@ -86,20 +86,6 @@ module _ {w : ℕ} {f : ℕ → List ℕ} {m : ℕ} {was : List ℕ} {at : ℕ} 
     listing-end h =
         let e : k ≡ m = omega (arith, l.bound) in
         rw e at l.put
-
--- a run of bytes, byte by byte
-abbrev pub byte_of : List ℕ → ℕ → List ℕ
-byte_of bytes k = get_or bytes k 0 ∷ []
-
-bytes-front : (bytes : List ℕ) (k : ℕ) → k ≤ length bytes → run (byte_of bytes) k ≡ take k bytes
-unfolding run
-bytes-front bytes zero h = refl
-bytes-front bytes (suc k) h = rw (bytes-front bytes k (omega arith), take-suc bytes k 0 h)
-
-pub bytes-end : {bytes was now : List ℕ} {at next k : ℕ} → Listing 1 (byte_of bytes) (length bytes) was at now next k → length bytes ≤ k
-    → Put (length bytes) bytes was at now next
-bytes-end {bytes} l h =
-    put-within (rw (bytes-front bytes (length bytes) (omega arith), take-length bytes) at (listing-end l h)) (omega arith)
 
 -- what was stored from the first place on can be lent
 module _ {w next : ℕ} {p was now : List ℕ} (put : Put w p was 0 now next) where

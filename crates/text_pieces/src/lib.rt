@@ -19,11 +19,10 @@ pub const SIGNED_WIDTH: usize = 1 + NUMBER_WIDTH;
 // The most bytes of `refused ` and `at ` with their numbers.
 pub const REFUSED_WIDTH: usize = 8 + NUMBER_WIDTH + (3 + NUMBER_WIDTH);
 
-// What a program says, with the count of the bytes stored: a text, or a line that tells what is wrong. `specs/Saying.antt`.
-#[derive(Clone, Copy)]
-pub enum Said {
-    Text(usize),
-    Trouble(usize),
+// A line that tells what is wrong stands in the first `size` bytes of the buffer. `specs/Saying.antt`.
+#[derive(Clone, Copy, Debug, PartialEq, Eq)]
+pub struct Trouble {
+    pub size: usize,
 }
 
 fn put_byte(text: &mut [u8], at: usize, byte: u8) -> usize
@@ -78,13 +77,9 @@ pub fn put_bytes(text: &mut [u8], at: usize, bytes: &[u8]) -> usize
     requires { at + length bytes.now ≤ length text.old }
     ensures { Put (length bytes.now) bytes.now text.old at text.new result }
 {
-    let mut last = at;
-    let mut i = 0;
-    while i < bytes.len() {
-        last = put_byte(text, last, bytes[i]);
-        i += 1;
-    }
-    last
+    let end = at + bytes.len();
+    text[at..end].copy_from_slice(bytes);
+    end
 }
 
 // A name, its number, and the byte that ends it.

@@ -1,5 +1,6 @@
 -- `put_second`: the path down and one step, then, if this does not come to the root, one step and the path up (`second-one`, `second-two`).
 use mathlib.Core.Bool.{true, false}
+use lib.ListN.{length}
 use native.Mathlib.Omega.{arith}
 use Rattle.blocking.specs.Paths.{path_in}
 use Rattle.blocking.proofs.ChainsLaws.{path-size}
@@ -9,15 +10,17 @@ use Rattle.blocking.proofs.put_second.Goals as goal
 pub returns-then-p-b : goal.returns-then-p-b
 returns-then-p-b c =
     let a = c.args in
-    let r = second-one a.words.now a.k a.b (path_in a.n a.count true a.scratch.now) (path_in a.n a.count false a.scratch.now) a.count a.at a.answer.now
-    (path-size _ a.count) (path-size _ a.count) (omega (arith, c.requires.3)) c.put_path.ensures c.put_step.ensures
+    let path = a.path.now in
+    let r = second-one a.words.now a.k a.b (path_in true path) (path_in false path) (length path) a.at a.answer.now (path-size _ (length path))
+    (path-size _ (length path)) (omega (arith, c.requires.2)) c.put_path.ensures (rw c.step.ensures at c.put_step.ensures)
     (rw c.pair_at-p.ensures.same at c.if-p-b.true) in
     record { size = r.0; stored = r.1 }
 
 pub returns : goal.returns
 returns c =
     let a = c.args in
-    let r = second-two a.words.now a.k a.b (path_in a.n a.count true a.scratch.now) (path_in a.n a.count false a.scratch.now) a.count a.at a.answer.now
-    (path-size _ a.count) (path-size _ a.count) (omega (arith, c.requires.3)) c.put_path.ensures c.put_step.ensures
-    c.put_step-2.ensures c.put_path-2.ensures (λ q. c.if-p-b.false (rw c.pair_at-p.ensures.same q)) in
+    let path = a.path.now in
+    let r = second-two a.words.now a.k a.b (path_in true path) (path_in false path) (length path) a.at a.answer.now (path-size _ (length path))
+    (path-size _ (length path)) (omega (arith, c.requires.2)) c.put_path.ensures (rw c.step.ensures at c.put_step.ensures)
+    (rw c.step-2.ensures at c.put_step-2.ensures) c.put_path-2.ensures (λ q. c.if-p-b.false (rw c.pair_at-p.ensures.same q)) in
     record { size = r.0; stored = r.1 }

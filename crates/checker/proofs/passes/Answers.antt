@@ -5,4 +5,4 @@ use Rattle.checker.proofs.passes.Goals as goal
 pub returns : goal.returns
 returns c =
     let a = c.args in
-    rw (c.first_broken.ensures, c.requires.pairs_are) (none-test a.words.now a.period a.timings.now)
+    rw (c.first_broken.ensures, c.args.list.usable.pairs_are) (none-test a.list.words.now a.period a.timings.now)

@@ -9,7 +9,7 @@ returns-then-hold-setup c =
     let setup = as_read c.setup_margin-setup.result c.setup_margin-setup.type_inv in
     let hold = as_read c.hold_margin-hold.result c.hold_margin-hold.type_inv in
     rw hold
-    (hold-lower a.period a.timings.now c.pair_at-p.ensures c.setup_margin-setup.ensures c.hold_margin-hold.ensures
+    (hold-lower a.period a.timings.now c.pair-p.ensures c.setup_margin-setup.ensures c.hold_margin-hold.ensures
     (rw (hold, setup) at c.if-hold-setup.true))
 
 pub returns : goal.returns
@@ -18,5 +18,5 @@ returns c =
     let setup = as_read c.setup_margin-setup.result c.setup_margin-setup.type_inv in
     let hold = as_read c.hold_margin-hold.result c.hold_margin-hold.type_inv in
     rw setup
-    (hold-not-lower a.period a.timings.now c.pair_at-p.ensures c.setup_margin-setup.ensures c.hold_margin-hold.ensures
+    (hold-not-lower a.period a.timings.now c.pair-p.ensures c.setup_margin-setup.ensures c.hold_margin-hold.ensures
     (rw (hold, setup) at c.if-hold-setup.false))

@@ -3,15 +3,15 @@ use Rattle.convert_text.proofs.ConvertTextLaws.{convert-refused, converted-room,
 use Rattle.convert_text.proofs.put_converted.Goals as goal
 
 pub slice_bounds-converted-end : goal.slice_bounds-converted-end
-slice_bounds-converted-end c = converted-room c.convert.ensures c.in-Converted.is
+slice_bounds-converted-end c = converted-room c.convert.ensures c.in-Ok.is
 
-pub slice_bounds-put_bytes-end : goal.slice_bounds-put_bytes-end
-slice_bounds-put_bytes-end c = converted-lent c.convert.ensures c.in-Converted.is
+pub slice_bounds-put_words-end : goal.slice_bounds-put_words-end
+slice_bounds-put_words-end c = converted-lent c.convert.ensures c.in-Ok.is
 
-pub returns-in-Refused : goal.returns-in-Refused
-returns-in-Refused c =
-    convert-refused c.convert.ensures c.in-Refused.is c.put_refusal-size.ensures
+pub returns-in-Err : goal.returns-in-Err
+returns-in-Err c =
+    convert-refused c.convert.ensures c.in-Err.is c.put_refusal-size.ensures
 
-pub returns-in-Converted : goal.returns-in-Converted
-returns-in-Converted c =
-    convert-done c.convert.ensures c.in-Converted.is c.put_bytes-size.ensures
+pub returns-in-Ok : goal.returns-in-Ok
+returns-in-Ok c =
+    convert-done c.convert.ensures c.in-Ok.is c.put_words.ensures

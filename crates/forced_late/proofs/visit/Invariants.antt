@@ -1,9 +1,6 @@
--- `visit`: along the ends at a register. Invariant `Grew`. What falls: the end, for the one before it is a smaller one.
+-- `visit`: along the ends at a register. Invariant `Grew`.
 use Rattle.forced_late.specs.Forest.{Grew}
 use Rattle.forced_late.proofs.visit.Given as goal
 
 abbrev pub invariant-loop-end : goal.invariant-loop-end
-invariant-loop-end l = Grew l.words l.n l.initial.scratch l.scratch
-
-abbrev pub decreases-loop-end : goal.decreases-loop-end
-decreases-loop-end l = l.end
+invariant-loop-end l = Grew l.list.words.now l.list.registers l.initial.scratch l.scratch

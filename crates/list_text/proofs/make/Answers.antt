@@ -7,12 +7,12 @@ use Rattle.list_text.proofs.make.Goals as goal
 pub put_numbers-requires : goal.put_numbers-requires
 put_numbers-requires c =
     let scan = c.scan.ensures in
-    let e = c.in-Numbers.is in
+    let e = c.in-Ok.is in
     ((search rules, stored_short scan e), (numbers-some scan e, numbers-most scan e))
 
-pub returns-in-Faulty : goal.returns-in-Faulty
-returns-in-Faulty c = make-faulty c.scan.ensures c.in-Faulty.is c.put_fault-size.ensures
+pub returns-in-Err : goal.returns-in-Err
+returns-in-Err c = make-faulty c.scan.ensures c.in-Err.is c.put_fault-size.ensures
 
-pub returns-in-Numbers : goal.returns-in-Numbers
-returns-in-Numbers c =
-    make-numbers c.scan.ensures c.in-Numbers.is c.put_numbers.ensures
+pub returns-in-Ok : goal.returns-in-Ok
+returns-in-Ok c =
+    make-numbers c.scan.ensures c.in-Ok.is c.put_numbers.ensures

@@ -1,5 +1,5 @@
 -- `put_pairs`: a line for each pair.
--- Invariant `Listing`: the lines of the first k pairs are stored. What falls: m - k.
+-- Invariant `Listing`: the lines of the first k pairs are stored.
 use native.Mathlib.Omega.{arith}
 use Rattle.text_pieces.proofs.PutLaws.{listing_start, listing-turn}
 use Rattle.list_text.proofs.put_pairs.Goals as goal

@@ -2,10 +2,8 @@
 use Rattle.list_text.proofs.LineLaws.{refused-whole, refused-line}
 use Rattle.list_text.proofs.put_refused.Goals as goal
 
-pub returns-then-last-eq0 : goal.returns-then-last-eq0
-returns-then-last-eq0 c =
-    refused-whole _ _ _ _ c.last_of-last.ensures c.if-last-eq0.true c.put_refusal.ensures
+pub returns-in-None : goal.returns-in-None
+returns-in-None c = refused-whole _ _ _ _ c.last_of.ensures c.in-None.is c.put_refusal.ensures
 
-pub returns : goal.returns
-returns c =
-    refused-line _ _ _ _ c.last_of-last.ensures c.if-last-eq0.false c.line_of-line.ensures c.put_refusal_in.ensures
+pub returns-in-Some : goal.returns-in-Some
+returns-in-Some c = refused-line _ _ _ _ c.last_of.ensures c.in-Some.is c.line_of.ensures c.put_refusal_in.ensures

@@ -1,7 +1,8 @@
 -- `settle`: all that one pair's broken choices force. Invariant `Settling`: what the first k rows force is followed.
--- What falls: 4 - k, the rows left. After them the capture is forced late where early, early is broken.
-use mathlib.Core.Path.{◌≡◌}
+-- After them the capture is forced late where early, early is broken.
+use mathlib.Core.Path.{◌≡◌, ◌∙◌}
 use native.Mathlib.Omega.{arith}
+use Rattle.split_laws.proofs.MarkLaws.{max-joined}
 use Rattle.split_laws.proofs.ClosureLaws.{settling-turn, settling-end}
 use borrow.Author.Rules.{rules}
 use Rattle.marks.proofs.settle.Goals as goal
@@ -10,12 +11,11 @@ pub loop-k-preserved : goal.loop-k-preserved
 loop-k-preserved c =
     let a = c.args in (
       search rules,
-      search rules,
-      settling-turn a.pair a.flags (search rules) c.join-all.ensures c.loop-k.invariant.2 c.apply-o.ensures,
+      settling-turn a.pair a.flags (search rules) (c.max-all.ensures ∙ max-joined c.loop-k.all c.apply-o.result) c.loop-k.invariant.1 c.apply-o.ensures,
     )
 
 pub returns : goal.returns
 returns c =
     let a = c.args in
     let e : c.loop-k.k ≡ 4 = omega arith in
-    settling-end a.pair a.flags c.join.ensures (rw e at c.loop-k.invariant.2) c.seed-last.ensures
+    settling-end a.pair a.flags (c.max.ensures ∙ max-joined c.loop-k.all c.seed-last.result) (rw e at c.loop-k.invariant.1) c.seed-last.ensures

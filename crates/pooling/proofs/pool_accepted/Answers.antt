@@ -1,10 +1,12 @@
 -- Everything is decided before the first word is stored.
-use Rattle.std.proofs.Common.{sym, ◌∙◌, arith, length}
+use Rattle.std.proofs.Common.{◌≡◌, sym, ◌∙◌, arith, rules, length}
+use Rattle.std.specs.Prelude.{Err}
 use Rattle.list_format.proofs.ListLaws.{accepted-in}
 use Rattle.list_format.proofs.NeedsLaws.{needs-few}
 use Rattle.relist.proofs.RelistLaws.{relisted-size}
 use Rattle.merging.specs.Merge.{pooled_pairs}
-use Rattle.pooling.proofs.CallLaws.{both-passed, pool-refused, pool-done}
+use Rattle.pooling.proofs.CallLaws.{both-passed, part-refused, part-passed, pool-refused, pool-done}
+use Rattle.pooling.specs.declared.PoolPart.TheVariants.{Call}
 use Rattle.pooling.proofs.pool_accepted.Goals as goal
 
 pub pair_place-places-requires : goal.pair_place-places-requires
@@ -15,8 +17,8 @@ overflow_add-places c =
     let few = needs-few c.args.first.now in
     record { fits = omega (arith, c.pair_place-places.ensures, c.count_pooled-count.ensures.1, c.need_count-needs.ensures, few) }
 
-pub both_fault-requires : goal.both_fault-requires
-both_fault-requires c =
+pub both_fault-found-requires : goal.both_fault-found-requires
+both_fault-found-requires c =
     let ws = c.args.first.now in
     let vs = c.args.second.now in
     let count = c.count_pooled-count.ensures.0 in
@@ -39,7 +41,7 @@ pub put_pooled-requires : goal.put_pooled-requires
 put_pooled-requires c =
     let ws = c.args.first.now in
     let vs = c.args.second.now in
-    let p = both-passed ws vs (length c.args.answer.now) (sym c.both_fault.ensures ∙ c.in-None.is) in
+    let p = both-passed ws vs (length c.args.answer.now) (sym c.both_fault-found.ensures ∙ part-passed Call c.both_fault-found.result c.of.ensures c.in_ok-of.was) in
     let count = c.count_pooled-count.ensures.0 in
     let needed = c.need_count-needs.ensures in (
       c.requires.0.1,
@@ -55,16 +57,18 @@ put_pooled-requires c =
       },
     )
 
-pub returns-in-At : goal.returns-in-At
-returns-in-At c =
-    pool-refused c.args.first.now c.args.second.now c.args.answer.now c.requires.0.0 c.requires.1.0
-    (sym c.both_fault.ensures ∙ c.in-At.is)
+pub returns-in_err-of : goal.returns-in_err-of
+returns-in_err-of c =
+    let call = part-refused Call c.both_fault-found.result c.of.ensures c.in_err-of.was in
+    let is : c.from_residual.result ≡ Err c.in_err-of.field-0.0 = search rules in
+    rw (is, call.told)
+    (pool-refused c.args.first.now c.args.second.now c.args.answer.now c.requires.0.0 c.requires.1.0 (sym c.both_fault-found.ensures ∙ call.was))
 
-pub returns-in-None : goal.returns-in-None
-returns-in-None c =
+pub returns : goal.returns
+returns c =
     let ws = c.args.first.now in
     let vs = c.args.second.now in
-    let none = sym c.both_fault.ensures ∙ c.in-None.is in
+    let none = sym c.both_fault-found.ensures ∙ part-passed Call c.both_fault-found.result c.of.ensures c.in_ok-of.was in
     let size = relisted-size ws (accepted-in ws c.requires.0.0) (pooled_pairs ws vs) in
     pool-done ws vs c.args.answer.now c.requires.0.0 c.requires.1.0 none _ _
     (omega (arith, size, c.pair_place-places.ensures, c.count_pooled-count.ensures.0, c.need_count-needs.ensures))

@@ -6,7 +6,7 @@ use Rattle.pooling.proofs.same_needs.Goals as goal
 
 pub loop-r-init : goal.loop-r-init
 unfolding same_needs
-loop-r-init c = (omega arith, refl)
+loop-r-init c = refl
 
 pub same_at-same-requires : goal.same_at-same-requires
 same_at-same-requires c =
@@ -18,4 +18,4 @@ same_at-same-requires c =
 
 pub loop-r-preserved : goal.loop-r-preserved
 unfolding same_needs
-loop-r-preserved c = (omega arith, rw (add-one c.loop-r.r, c.same_at-same.ensures, ← c.loop-r.invariant.1))
+loop-r-preserved c = rw (add-one c.loop-r.r, c.same_at-same.ensures, ← c.loop-r.invariant)

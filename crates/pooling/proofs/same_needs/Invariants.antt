@@ -1,10 +1,7 @@
--- Invariant: `same` says whether the first r registers have the same needs. What falls: n - r.
-use Rattle.std.proofs.Common.{◌≡◌, ◌-◌, ◌≤◌}
+-- Invariant: `same` says whether the first r registers have the same needs.
+use Rattle.std.proofs.Common.{◌≡◌}
 use Rattle.pooling.specs.Pool.{same_needs}
 use Rattle.pooling.proofs.same_needs.Given as goal
 
 abbrev pub invariant-loop-r : goal.invariant-loop-r
-invariant-loop-r l = (l.r ≤ l.n) × (l.same ≡ same_needs l.first l.second l.r)
-
-abbrev pub decreases-loop-r : goal.decreases-loop-r
-decreases-loop-r l = l.n - l.r
+invariant-loop-r l = l.same ≡ same_needs l.first l.second l.r

@@ -1,14 +1,10 @@
 -- `record_broken`: the flags of all pairs, four to a pair.
--- Invariant `Filling`: those of the first k pairs are stored. What falls: m - k.
+-- Invariant `Filling`: those of the first k pairs are stored.
 use mathlib.Core.List.{[]}
-use Prim.Native.Nat.{◌-◌}
 use Rattle.buffers.proofs.FillLaws.{Filling}
 use Rattle.list_format.specs.Lists.{pair_at}
 use Rattle.propagate.specs.Store.{flags_of}
 use Rattle.propagate.proofs.record_broken.Given as goal
 
 abbrev pub invariant-loop-k : goal.invariant-loop-k
-invariant-loop-k l = Filling [] (λ k. flags_of l.period l.offset (pair_at l.words k)) l.m l.initial.flags l.flags l.k
-
-abbrev pub decreases-loop-k : goal.decreases-loop-k
-decreases-loop-k l = l.m - l.k
+invariant-loop-k l = Filling [] (λ k. flags_of l.period l.offset (pair_at l.list.words.now k)) l.list.pairs l.initial.flags l.flags l.k

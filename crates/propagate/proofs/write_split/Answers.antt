@@ -1,5 +1,5 @@
 -- `write_split`: the offset for each of the first n registers that is marked late, 0 for any other.
--- Invariant `Filling`: the timings of the first i are stored. What falls: n - i.
+-- Invariant `Filling`: the timings of the first i are stored.
 use mathlib.Core.Path.{refl}
 use Prim.Native.Nat.{◌<◌}
 use native.Mathlib.Omega.{arith}

@@ -1,7 +1,6 @@
 -- `write_split`: the offset for each of the first n registers that is marked late, 0 for any other.
--- Invariant `Filling`: the timings of the first i are stored. What falls: n - i.
+-- Invariant `Filling`: the timings of the first i are stored.
 use mathlib.Core.List.{[], ◌∷◌}
-use Prim.Native.Nat.{◌-◌}
 use lib.ListN.{get_or}
 use Rattle.buffers.proofs.FillLaws.{Filling}
 use Rattle.split_laws.specs.Split.{time_of}
@@ -10,6 +9,3 @@ use Rattle.propagate.proofs.write_split.Given as goal
 
 abbrev pub invariant-loop-i : goal.invariant-loop-i
 invariant-loop-i l = Filling [] (λ k. time_of l.offset (is_late (get_or l.marks k 0)) ∷ []) l.n l.initial.answer l.answer l.i
-
-abbrev pub decreases-loop-i : goal.decreases-loop-i
-decreases-loop-i l = l.n - l.i

@@ -1,5 +1,5 @@
 -- `write_split`: the timings of the split, each in the place of the reach that it is read from.
--- Invariant `Filling`: those of the first i registers are stored. What falls: the count of reaches less i.
+-- Invariant `Filling`: those of the first i registers are stored.
 use Rattle.buffers.proofs.FillLaws.{filled_none, filling-start}
 use Rattle.reach.proofs.SweepLaws.{split-turn, split-end}
 use Rattle.reach.proofs.write_split.Goals as goal

@@ -1,7 +1,6 @@
 -- `write_split`: the timings of the split, each in the place of the reach that it is read from.
--- Invariant `Filling`: those of the first i registers are stored. What falls: the count of reaches less i.
+-- Invariant `Filling`: those of the first i registers are stored.
 use mathlib.Core.List.{[]}
-use Prim.Native.Nat.{◌-◌}
 use lib.ListN.{length}
 use Rattle.buffers.proofs.FillLaws.{Filling}
 use Rattle.reach.proofs.SweepLaws.{times}
@@ -9,6 +8,3 @@ use Rattle.reach.proofs.write_split.Given as goal
 
 abbrev pub invariant-loop-i : goal.invariant-loop-i
 invariant-loop-i l = Filling [] (times l.offset l.two l.initial.reach) (length l.initial.reach) l.initial.reach l.reach l.i
-
-abbrev pub decreases-loop-i : goal.decreases-loop-i
-decreases-loop-i l = length l.initial.reach - l.i

@@ -16,5 +16,4 @@ loop-r-preserved c =
     let at = c.loop-r in
     let size : length (take c.args.at c.args.answer.now) ≡ c.args.at = length-take-le c.args.at c.args.answer.now (omega arith) in
     filling-turn 2 (λ r. refl) (omega (arith, size)) at.invariant (omega arith) (c.args.at + 2 * at.r) (omega (arith, size))
-    (rw (c.setup_at-setup.ensures, c.hold_at-hold.ensures) at
-    c.put_needs.ensures)
+    (rw (c.setup-setup.ensures, c.hold-hold.ensures, c.of-layout.ensures) at c.put_needs.ensures)

@@ -1,5 +1,5 @@
 -- `goes_to`: the index of the byte with which reading stops.
--- Invariant `Going`: what is left after i bytes comes to the same. What falls: length text - i.
+-- Invariant `Going`: what is left after i bytes comes to the same.
 use mathlib.Core.Path.{◌∙◌, sym}
 use native.Mathlib.Omega.{arith}
 use Rattle.scan.proofs.PlaceLaws.{going-stop, going-turn, going_end}
@@ -14,4 +14,4 @@ loop-i-preserved c =
     going-turn c.loop-i.invariant (omega arith) c.step-state.ensures (sym c.stops.ensures ∙ c.if-stops.false)
 
 pub returns : goal.returns
-returns c = going_end c.loop-i.invariant (omega arith)
+returns c = going_end c.loop-i.invariant c.loop-i-test.false

@@ -1,5 +1,5 @@
 -- `place_of`: the place of a byte, by the bytes before it.
--- Invariant `Placing`: the place of byte i. What falls: at - i.
+-- Invariant `Placing`: the place of byte i.
 use native.Mathlib.Omega.{arith}
 use Rattle.scan.proofs.PlaceLaws.{placing-start, placing-turn}
 use Rattle.scan.proofs.place_of.Goals as goal

@@ -1,12 +1,12 @@
 -- `stops`: a fault, or enough numbers.
-use borrow.Author.Tests.{eq-eqb, ne_eqb}
+use mathlib.Core.Path.{◌∙◌, sym}
 use Rattle.scan.specs.Scan.{stops}
 use Rattle.scan.proofs.stops.Goals as goal
 
-pub returns-then-state-ne0 : goal.returns-then-state-ne0
+pub returns-then-is_some : goal.returns-then-is_some
 unfolding stops
-returns-then-state-ne0 c = rw (ne_eqb c.args.state.fault 0 c.if-state-ne0.true)
+returns-then-is_some c = rw (c.if-is_some.true, sym c.is_some.ensures ∙ c.if-is_some.true)
 
-pub returns : goal.returns
+pub returns-else-is_some : goal.returns-else-is_some
 unfolding stops
-returns c = rw (eq-eqb c.args.state.fault 0 c.if-state-ne0.false)
+returns-else-is_some c = rw (sym c.is_some.ensures ∙ c.if-is_some.false)

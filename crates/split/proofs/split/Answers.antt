@@ -1,20 +1,29 @@
 -- `split`: the list is refused, or the call, or the trial decides (`show`). One law for each way to end.
-use mathlib.Core.Path.{sym, ◌∙◌}
+use Rattle.std.proofs.Common.{rules}
+use Rattle.std.proofs.lemmas.Result.{IfOk-at_ok, IfErr-at_err}
 use Rattle.split.proofs.SplitLaws.{list-refused, call-refused, call-allowed}
 use Rattle.split.proofs.split.Goals as goal
 
 pub show-requires : goal.show-requires
 show-requires c =
-    call-allowed c.args.words.now c.args.period c.args.offset c.args.answer.now c.args.scratch.now (sym c.verdict.ensures ∙ c.in-Accepted.is)
-    c.call_fault.ensures
-    c.in-None.is
+    let a = c.args in
+    let list = IfOk-at_ok _ c.in_ok-list.was c.accepted.ensures.accepted in
+    rw (← list.0) at (call-allowed a.words.now a.period a.offset a.answer.now a.scratch.now list.1 c.call_fault.ensures c.in_ok-call_fault.was)
 
-pub returns-in-Refused : goal.returns-in-Refused
-returns-in-Refused c =
-    list-refused c.args.words.now c.args.period c.args.offset c.args.answer.now c.args.scratch.now (sym c.verdict.ensures ∙ c.in-Refused.is)
+pub returns-in_err-list : goal.returns-in_err-list
+returns-in_err-list c =
+    let a = c.args in
+    let stops = list-refused a.words.now a.period a.offset a.answer.now a.scratch.now (IfErr-at_err _ c.in_err-list.was c.accepted.ensures.refused) in
+    search (rules, stops)
 
-pub returns-in-At : goal.returns-in-At
-returns-in-At c =
-    call-refused c.args.words.now c.args.period c.args.offset c.args.answer.now c.args.scratch.now (sym c.verdict.ensures ∙ c.in-Accepted.is)
-    c.call_fault.ensures
-    c.in-At.is
+pub returns-in_err-call_fault : goal.returns-in_err-call_fault
+returns-in_err-call_fault c =
+    let a = c.args in
+    let list = IfOk-at_ok _ c.in_ok-list.was c.accepted.ensures.accepted in
+    let stops = call-refused a.words.now a.period a.offset a.answer.now a.scratch.now list.1 c.call_fault.ensures c.in_err-call_fault.was in
+    search (rules, stops)
+
+pub returns : goal.returns
+returns c =
+    let list = IfOk-at_ok _ c.in_ok-list.was c.accepted.ensures.accepted in
+    rw list.0 at c.show.ensures

@@ -8,7 +8,7 @@ returns-then-not-self c = ended-outside _ c.if-not-self.true
 
 pub returns-then-is_second : goal.returns-then-is_second
 returns-then-is_second c =
-    ended-second _ c.if-not-self.false (sym c.is_second.ensures ∙ c.if-is_second.true)
+    c.outside.ensures ∙ ended-second _ c.if-not-self.false (sym c.is_second.ensures ∙ c.if-is_second.true)
 
 pub returns-then-self-ge-MAX_NUMBERS : goal.returns-then-self-ge-MAX_NUMBERS
 returns-then-self-ge-MAX_NUMBERS c =
@@ -16,4 +16,4 @@ returns-then-self-ge-MAX_NUMBERS c =
 
 pub returns : goal.returns
 returns c =
-    ended-next _ c.if-not-self.false (sym c.is_second.ensures ∙ c.if-is_second.false) c.if-self-ge-MAX_NUMBERS.false
+    c.outside-2.ensures ∙ ended-next _ c.if-not-self.false (sym c.is_second.ensures ∙ c.if-is_second.false) c.if-self-ge-MAX_NUMBERS.false

@@ -9,7 +9,7 @@ returns-then-blank c = c.close.ensures ∙ in-blank _ _ (sym c.blank.ensures ∙
 
 pub returns-then-byte-eq35 : goal.returns-then-byte-eq35
 returns-then-byte-eq35 c =
-    ap commented c.close-next.ensures ∙ in-comment _ _ (sym c.blank.ensures ∙ c.if-blank.false) c.if-byte-eq35.true
+    ap commented c.close-then-byte-eq35.ensures ∙ in-comment _ _ (sym c.blank.ensures ∙ c.if-blank.false) c.if-byte-eq35.true
 
 pub returns-then-byte-lt48 : goal.returns-then-byte-lt48
 returns-then-byte-lt48 c =

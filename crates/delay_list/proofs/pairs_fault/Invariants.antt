@@ -1,8 +1,0 @@
--- `pairs_fault`: the first fault of the pairs, one by one, and of the end.
--- Invariant `Remaining`: what is left of the checks decides as the whole does.
-use Rattle.refusals.proofs.CheckLaws.{Remaining}
-use Rattle.list_format.specs.Lists.{pair_place, pair_checks, end_checks}
-use Rattle.delay_list.proofs.pairs_fault.Given as goal
-
-abbrev pub invariant-loop-k : goal.invariant-loop-k
-invariant-loop-k l = Remaining (pair_checks l.asked l.words l.n) (end_checks l.words (pair_place l.words l.m)) l.m l.k

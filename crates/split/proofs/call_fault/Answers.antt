@@ -1,8 +1,0 @@
--- `call_fault`: refusals 3, 2 and 1 in order, one check of `split_call_checks` for each `or`.
-use Rattle.refusals.specs.Checks.{or_check, fault_after}
-use Rattle.split.proofs.call_fault.Goals as goal
-
-pub returns : goal.returns
-unfolding or_check fault_after
-returns c =
-    rw (c.or-5.ensures, c.or-4.ensures, c.or-3.ensures, c.or-2.ensures, c.or.ensures, c.scratch_places-need.ensures)
