@@ -25,7 +25,9 @@ pub fn fill(words: &[u32], n: usize, count: usize, ends: Ends, answer: &mut [u32
     free_climb::climb(words, count, &mut answer[..n], ends)
 }
 
-// The answer for an accepted list of n registers, with so many places for the ends of its pairs.
+// The answer for an accepted list of n registers, with so many places for the ends of its pairs. It is not put into its callers, so
+// that only one of the two stands on the stack.
+#[inline(never)]
 fn answer_within<const PLACES: usize>(
     words: &[u32],
     n: usize,
