@@ -2,7 +2,7 @@
 // The contracts cite `specs/PoolText.antt`; what the pooled list stands for is said in `pooling`.
 #![tactic(auto)]
 
-ghost use Rattle.std.specs.Prelude.{◌+◌, ◌*◌, ◌≤◌, length};
+ghost use Rattle.std.specs.Prelude.{◌≡◌, ◌≤◌, length};
 ghost use Rattle.refusals.specs.Checks.{number_of};
 ghost use Rattle.pooling.specs.Pool.{number_of_part};
 ghost use Rattle.text_pieces.specs.Pieces.{Put};
@@ -13,24 +13,19 @@ ghost use Rattle.pool_text.specs.PoolText.{pool_meaning, refusal_line_of_neither
 
 use list_bytes::{MAX_BYTES, MAX_WORDS};
 use pooling::{PoolPart, PoolRefused};
-use refusal_text::Cause;
 use refusals::{Refusal, Refused};
 use text_pieces::{Trouble, put_bytes, put_named, put_refused};
 
 // What a refusal of pooling means; any that is not of both lists together is of one of them, or of the call.
-#[tactic(auto, unfolding(refusal_text::specs::RefusalText::cause_number, refusals::specs::Checks::number_of))]
-fn put_pool_meaning(text: &mut [u8], at: usize, refusal: Refusal) -> usize
-    requires { at + words_width ≤ length text.old }
-    ensures { Put words_width (pool_meaning (number_of refusal)) text.old at text.new result }
+#[tactic(auto, unfolding(refusal_text::specs::RefusalText::words_for, crate::specs::PoolText::pool_meaning, refusals::specs::Checks::number_of))]
+fn pool_words(refusal: Refusal) -> &'static [u8]
+    ensures is { result.now ≡ pool_meaning (number_of refusal) }
+    ensures short { length result.now ≤ words_width }
 {
     match refusal {
-        Refusal::Unlike => put_bytes(
-            text,
-            at,
-            b" the lists have other counts of registers or other needs\n",
-        ),
-        Refusal::Pairs => put_bytes(text, at, b" the pooled list has more than 2048 pairs\n"),
-        _ => refusal_text::put_meaning(text, at, Cause::Of(refusal)),
+        Refusal::Unlike => b" the lists have other counts of registers or other needs\n",
+        Refusal::Pairs => b" the pooled list has more than 2048 pairs\n",
+        _ => refusal_text::refusal_words(refusal),
     }
 }
 
@@ -40,7 +35,7 @@ fn put_refusal_of_neither(text: &mut [u8], refused: Refused) -> usize
     ensures { Put line_width (refusal_line_of_neither (number_of refused.refusal) refused.place) text.old 0 text.new result }
 {
     let a = put_refused(text, refused.refusal.number(), refused.place, b':');
-    put_pool_meaning(text, a, refused.refusal)
+    put_bytes(text, a, pool_words(refused.refusal))
 }
 
 // The line of a refusal of one of the two, with the list.
@@ -51,7 +46,7 @@ fn put_refusal_of_one(text: &mut [u8], list: u32, refused: Refused) -> usize
     let a = put_refused(text, refused.refusal.number(), refused.place, b' ');
     let b = put_named(text, a, b"(list ", list as u64, b')');
     let c = put_bytes(text, b, b":");
-    put_pool_meaning(text, c, refused.refusal)
+    put_bytes(text, c, pool_words(refused.refusal))
 }
 
 // The line of a refusal of a call with two lists, with the list that it is of, if it is of one.
@@ -62,11 +57,8 @@ pub fn put_refusal_of(text: &mut [u8], why: PoolRefused) -> usize
 {
     match why.of {
         PoolPart::Call => put_refusal_of_neither(text, why.refused),
-        PoolPart::First | PoolPart::Second => put_refusal_of_one(
-            text,
-            why.of.number(),
-            why.refused,
-        ),
+        PoolPart::First => put_refusal_of_one(text, 1, why.refused),
+        PoolPart::Second => put_refusal_of_one(text, 2, why.refused),
     }
 }
 

@@ -8,5 +8,5 @@ pub returns : goal.returns
 unfolding refusal_line_of_one
 returns c =
     let put = put_then (rw c.number.ensures at c.put_refused-a.ensures)
-    (put_then c.put_named-b.ensures (put_then c.put_bytes-c.ensures c.put_pool_meaning.ensures)) in
-    put-within put (omega (arith, put.most))
+    (put_then c.put_named-b.ensures (put_then c.put_bytes-c.ensures (rw c.pool_words.ensures.is at c.put_bytes.ensures))) in
+    put-within put (omega (arith, put.most, c.pool_words.ensures.short))
