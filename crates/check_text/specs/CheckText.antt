@@ -9,14 +9,13 @@ use Rattle.checker.specs.declared.Rule.{Rule}
 use Rattle.checker.specs.declared.Rule.TheVariants.{Setup, Hold}
 use Rattle.checker.specs.declared.Smallest.{Smallest}
 use Rattle.checker.specs.declared.Checking.{Checking}
-use Rattle.checker.specs.declared.Checking.TheVariants.{NoPairs, Admissible, Broken, Refused}
+use Rattle.checker.specs.declared.Checking.TheVariants.{NoPairs, Admissible, Broken}
 use Rattle.text_pieces.specs.Pieces.{letters, signed, named, space, newline, number_width, signed_width}
 use Rattle.text_pieces.specs.Saying.{Saying, text, trouble}
 use Rattle.refusal_text.specs.RefusalText.{caused_line, fault_line}
 use Rattle.list_bytes.specs.ListBytes.{list_of}
-use Rattle.scan.specs.declared.Scanned.{Scanned}
-use Rattle.scan.specs.declared.Scanned.TheVariants.{Numbers, Faulty}
-use Rattle.scan.specs.Scan.{scanned, stored_of}
+use Rattle.std.specs.Prelude.{Ok, Err}
+use Rattle.scan.specs.Scan.{Scanned, scanned, stored_of}
 
 -- ---- how long a text can be
 
@@ -91,7 +90,6 @@ unfoldable pub answer_text : List ℕ → Checking → List ℕ
 answer_text ws NoPairs = letters "admissible\nno pairs\n"
 answer_text ws (Admissible x) = letters "admissible\n" ++ margin_line ws x
 answer_text ws (Broken k rule x) = broken_line ws k rule ++ margin_line ws x
-answer_text ws (Refused number place) = []
 
 -- what a refusal is caused by: of 3, the period (31), a count of timings other than that of registers (33), or a timing (34)
 unfoldable pub check_cause : List ℕ → ℕ → ℕ → ℕ → ℕ
@@ -108,11 +106,11 @@ answer_said ws period xs returned stored = text (answer_text ws (answer_for ws p
 unfoldable pub checked_said : List ℕ → ℕ → List ℕ → Saying
 checked_said ws period xs = told (check_refused ws period (length xs)) (answer_said ws period xs) (checking ws period xs)
 
--- from the numbers xs of the text of a schedule: a fault in the text comes first. Faults 3, 4 and 8, of the lines of a list, do not occur:
+-- from the numbers xs of the text of a schedule: a fault in the text comes first. The faults of the lines of a list do not occur:
 -- `no-line-fault` in scan's proofs
 unfoldable pub scanned_said : List ℕ → ℕ → Scanned → List ℕ → Saying
-scanned_said ws period (Faulty fault line column byte) xs = trouble (fault_line fault line column byte)
-scanned_said ws period (Numbers count needs) xs = checked_said ws period xs
+scanned_said ws period (Err wrong) xs = trouble (fault_line wrong)
+scanned_said ws period (Ok found) xs = checked_said ws period xs
 
 -- what is said for the bytes bs of a list, a period, and the text ts of a schedule
 abbrev pub check_text : List ℕ → ℕ → List ℕ → Saying

@@ -5,7 +5,8 @@
 ghost use Rattle.std.specs.Prelude.{◌≡◌, ◌+◌, ◌≤◌, length};
 ghost use Rattle.text_pieces.specs.Pieces.{Put};
 ghost use Rattle.text_pieces.specs.Saying.{SaidAs};
-ghost use Rattle.refusal_text.specs.RefusalText.{line_width, caused_line};
+ghost use Rattle.refusals.specs.Checks.{number_of};
+ghost use Rattle.refusal_text.specs.RefusalText.{line_width, cause_number, caused_line};
 ghost use Rattle.list_format.specs.Lists.{registers, PairIn};
 ghost use Rattle.list_bytes.specs.ListBytes.{list_of};
 ghost use Rattle.checker.specs.declared.Checking.TheVariants.{Admissible, Broken};
@@ -15,8 +16,10 @@ ghost use Rattle.check_text.specs.CheckText.{check_cause, checked_said, check_te
 
 use checker::{Checking, Rule, Smallest};
 use list_bytes::MAX_WORDS;
-use scan::{MAX_NUMBERS, Scanned};
-use text_pieces::{NUMBER_WIDTH, SIGNED_WIDTH, Said, put_bytes, put_named, put_signed};
+use refusal_text::Cause;
+use refusals::{Refusal, Refused};
+use scan::MAX_NUMBERS;
+use text_pieces::{NUMBER_WIDTH, SIGNED_WIDTH, Trouble, put_bytes, put_named, put_signed};
 use timing::MAX_PERIOD;
 
 // The most bytes of the registers of a pair, of the line of a pair that breaks a rule, and of the line of a margin.
@@ -126,26 +129,38 @@ fn put_failed(text: &mut [u8], words: &[u32], k: usize, rule: Rule, x: Smallest)
 fn registers_of(words: &[u32]) -> usize
     ensures { result ≡ registers words.now }
 {
-    if words.len() == 0 {
+    if words.is_empty() {
         return 0;
     }
     words::head_registers(words[0]) as usize
 }
 
-// What a refusal is caused by.
-fn check_cause(words: &[u32], period: u32, count: usize, number: u32) -> u32
-    ensures { result ≡ check_cause words.now period count number }
+// What a refusal of a period and so many timings is caused by.
+#[tactic(auto, unfolding(refusal_text::specs::RefusalText::cause_number))]
+fn call_cause(words: &[u32], period: u32, count: usize) -> Cause
+    ensures { cause_number result ≡ check_cause words.now period count 3 }
 {
-    if number != 3 {
-        return number;
-    }
     if period == 0 {
-        return 31;
+        return Cause::Period;
     }
     if period > MAX_PERIOD {
-        return 31;
+        return Cause::Period;
     }
-    if count == registers_of(words) { 34 } else { 33 }
+    if count == registers_of(words) {
+        return Cause::Timing;
+    }
+    Cause::Count
+}
+
+// What a refusal is caused by.
+#[tactic(auto, unfolding(crate::specs::CheckText::check_cause, refusals::specs::Checks::number_of, refusal_text::specs::RefusalText::cause_number))]
+fn check_cause(words: &[u32], period: u32, count: usize, refusal: Refusal) -> Cause
+    ensures { cause_number result ≡ check_cause words.now period count (number_of refusal) }
+{
+    match refusal {
+        Refusal::Call => call_cause(words, period, count),
+        _ => Cause::Of(refusal),
+    }
 }
 
 // The line of a refusal, with its cause.
@@ -154,43 +169,47 @@ fn put_refused_check(
     words: &[u32],
     period: u32,
     count: usize,
-    number: u32,
-    place: usize,
+    refused: Refused,
 ) -> usize
     requires { text_places ≤ length text.old }
-    ensures { Put line_width (caused_line number place (check_cause words.now period count number)) text.old 0 text.new result }
+    ensures { Put line_width
+        (caused_line (number_of refused.refusal) refused.place (check_cause words.now period count (number_of refused.refusal)))
+        text.old 0 text.new result }
 {
-    let cause = check_cause(words, period, count, number);
-    refusal_text::put_caused(text, number, place, cause)
+    let cause = check_cause(words, period, count, refused.refusal);
+    refusal_text::put_caused(text, refused, cause)
 }
 
 // The check of a schedule against a run of words.
-fn put_checked(text: &mut [u8], words: &[u32], period: u32, timings: &[u32]) -> Said
+fn put_checked(
+    text: &mut [u8],
+    words: &[u32],
+    period: u32,
+    timings: &[u32],
+) -> Result<usize, Trouble>
     requires { text_places ≤ length text.old }
     ensures { SaidAs text_places (checked_said words.now period timings.now) text.old text.new result }
 {
     match checker::check(words, period, timings) {
-        Checking::Refused(number, place) => {
-            let size = put_refused_check(text, words, period, timings.len(), number, place);
-            Said::Trouble(size)
+        Err(refused) => {
+            let size = put_refused_check(text, words, period, timings.len(), refused);
+            Err(Trouble { size })
         }
-        Checking::NoPairs => {
-            let size = put_bytes(text, 0, b"admissible\nno pairs\n");
-            Said::Text(size)
-        }
-        Checking::Admissible(x) => {
-            let size = put_admissible(text, words, x);
-            Said::Text(size)
-        }
-        Checking::Broken(k, rule, x) => {
-            let size = put_failed(text, words, k, rule, x);
-            Said::Text(size)
-        }
+        Ok(checked) => match checked {
+            Checking::NoPairs => Ok(put_bytes(text, 0, b"admissible\nno pairs\n")),
+            Checking::Admissible(x) => Ok(put_admissible(text, words, x)),
+            Checking::Broken(k, rule, x) => Ok(put_failed(text, words, k, rule, x)),
+        },
     }
 }
 
 // And against the bytes of a list.
-fn put_against(text: &mut [u8], bytes: &[u8], period: u32, timings: &[u32]) -> Said
+fn put_against(
+    text: &mut [u8],
+    bytes: &[u8],
+    period: u32,
+    timings: &[u32],
+) -> Result<usize, Trouble>
     requires { text_places ≤ length text.old }
     ensures { SaidAs text_places (checked_said (list_of bytes.now) period timings.now)
         text.old text.new result }
@@ -202,15 +221,20 @@ fn put_against(text: &mut [u8], bytes: &[u8], period: u32, timings: &[u32]) -> S
 
 // Checks the schedule whose text is given, one timing for each register, against the list whose bytes are given. The text is stored in the
 // first places of `text`; later places keep their contents.
-pub fn check_text(bytes: &[u8], period: u32, timings: &[u8], text: &mut [u8; TEXT_PLACES]) -> Said
+pub fn check_text(
+    bytes: &[u8],
+    period: u32,
+    timings: &[u8],
+    text: &mut [u8; TEXT_PLACES],
+) -> Result<usize, Trouble>
     ensures { SaidAs text_places (check_text bytes.now period timings.now) text.old text.new result }
 {
     let mut numbers = [0u32; MAX_NUMBERS];
     match scan::scan(timings, false, &mut numbers) {
-        Scanned::Faulty(fault, line, column, byte) => {
-            let size = refusal_text::put_fault(text, fault, line, column, byte);
-            Said::Trouble(size)
+        Err(wrong) => {
+            let size = refusal_text::put_fault(text, wrong);
+            Err(Trouble { size })
         }
-        Scanned::Numbers(count, _) => put_against(text, bytes, period, &numbers[..count]),
+        Ok(found) => put_against(text, bytes, period, &numbers[..found.count]),
     }
 }

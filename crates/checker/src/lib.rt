@@ -35,7 +35,8 @@ pub enum Checking {
     Broken(usize, Rule, Smallest),
 }
 
-// What a walk has come to: the smallest margin, and where that is negative the first pair that breaks a rule.
+// What a walk has come to: the smallest margin, and where that is negative the first pair that breaks a rule. Its sign tells
+// whether there is one.
 #[derive(Clone, Copy)]
 struct Walk {
     smallest: Smallest,

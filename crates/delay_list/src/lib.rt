@@ -3,13 +3,13 @@
 #![tactic(auto)]
 
 ghost use Rattle.std.specs.Prelude.{◌≡◌, ◌+◌, ◌-◌, ◌*◌, ◌^◌, ◌<◌, ◌≤◌, true, false, ◌&&◌, [], ◌∷◌, length, nat_lt};
+ghost use Rattle.std.specs.Prelude.{Err, IfOk, IfErr};
 ghost use Rattle.words.specs.Word.{count_bits, register_bits, launch_of, capture_of, hold_of, setup_of};
 ghost use Rattle.timing.specs.Limits.{max_registers, max_period};
 ghost use Rattle.refusals.specs.Checks.{no_fault, first_fault, each_check};
 ghost use Rattle.refusals.specs.declared.Refusal.TheVariants.{NoNeeds};
 ghost use Rattle.list_format.specs.Lists.{word, registers, pair_count, need_words_by, need_words, hold_at, setup_at, needs_of, place_by, pair_place};
 ghost use Rattle.list_format.specs.Lists.{place_of, step_of, pair_of, written_at, counting, counting_needs, no_needs};
-ghost use Rattle.std.specs.Prelude.{Err, IfOk, IfErr};
 ghost use Rattle.list_format.specs.Lists.{accepted, UsableList, IsAccepted, PairIn, IsWritten, IsPair, verdict_by, verdict as verdict_of};
 ghost use Rattle.list_format.specs.Lists.{head_checks, need_checks, block_checks, kind_checks, value_checks, own_checks, order_check, pair_checks};
 ghost use Rattle.list_format.specs.Lists.{end_checks, pairs_checks, body_checks};
@@ -171,7 +171,7 @@ impl<'a> Layout<'a> {
         }
     }
 
-    // Whether all words of needs do. No word ends the loop, so that several are looked at in one step.
+    // Whether all words of needs pass their checks. No word ends the loop, so that several are looked at in one step.
     fn needs_pass(self) -> bool
         ensures { result ≡ true → first_fault (each_check (need_checks self.entry.words.now) 0 self.entry.needs) ≡ no_fault }
     {
@@ -396,11 +396,7 @@ fn pair_count(words: &[u32]) -> usize
 fn pairs_left(words: &[u32], k: usize) -> usize
     ensures { result ≡ pair_count words.now - k }
 {
-    let m = pair_count(words);
-    if k < m {
-        return m - k;
-    }
-    0
+    pair_count(words).saturating_sub(k)
 }
 
 // Pair k, or the end.

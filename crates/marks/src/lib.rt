@@ -11,7 +11,7 @@ ghost use Rattle.split_laws.specs.Marks.{Forced, Followed, Applied, Seeded, Sett
 use split_laws::Change;
 use timing::Pair;
 
-// A mark is 0 where nothing is known of a register's choice.
+// A mark is 0 where nothing is known of a register's choice. Marks stand in the scratch that a caller lends, so they are numbers.
 pub const EARLY: u32 = 1;
 
 pub const LATE: u32 = 2;

@@ -5,12 +5,12 @@
 ghost use Rattle.std.specs.Prelude.{◌≡◌, ◌+◌, ◌*◌, ◌≤◌, ◌<◌, length, take, drop, ◌++◌};
 ghost use Rattle.buffers.specs.Over.{over};
 ghost use Rattle.timing.specs.Limits.{per_pair};
-ghost use Rattle.list_format.specs.Lists.{registers, UsableList};
 ghost use Rattle.split_laws.specs.Split.{timings};
 ghost use Rattle.split_laws.specs.Marks.{split_of};
 ghost use Rattle.propagate.specs.Store.{flags_of, flags_to, four_at, Lent, Prepared, Decided};
 ghost use Rattle.propagate.specs.Passes.{Pass, PairClosed, AllClosed, Propagated};
 
+use delay_list::DelayList;
 use split_laws::Change;
 use timing::{PER_PAIR, PER_REGISTER, Pair};
 
@@ -28,36 +28,36 @@ fn flags_at(scratch: &[u32], at: usize) -> [u32; PER_PAIR]
 }
 
 // What pair k forces is followed in the marks.
-fn step(words: &[u32], n: usize, m: usize, k: usize, scratch: &mut [u32]) -> Change
-    requires { Lent words.now n m scratch.old × (k < m) }
-    ensures { Pass words.now n (PairClosed words.now k) scratch.old scratch.new result }
+fn step(list: DelayList, k: usize, scratch: &mut [u32]) -> Change
+    requires { Lent list.words.now list.registers list.pairs scratch.old × (k < list.pairs) }
+    ensures { Pass list.entry.words.now list.entry.registers (PairClosed list.entry.words.now k) scratch.old scratch.new result }
 {
-    let pair = delay_list::pair_at(words, k);
+    let n = list.registers;
     let flags = flags_at(scratch, PER_REGISTER * n + PER_PAIR * k);
-    marks::settle(&mut scratch[..n], pair, flags)
+    marks::settle(&mut scratch[..n], list.pair(k), flags)
 }
 
 // One pass over all pairs.
-fn sweep(words: &[u32], n: usize, m: usize, down: bool, scratch: &mut [u32]) -> Change
-    requires { Lent words.now n m scratch.old }
-    ensures { Pass words.now n (AllClosed words.now) scratch.old scratch.new result }
+fn sweep(list: DelayList, down: bool, scratch: &mut [u32]) -> Change
+    requires { Lent list.words.now list.registers list.pairs scratch.old }
+    ensures { Pass list.entry.words.now list.entry.registers (AllClosed list.entry.words.now) scratch.old scratch.new result }
 {
     let mut all = Change::Settled;
-    for i in 0..m {
-        let o = step(words, n, m, delay_list::place(m, i, down), scratch);
+    for i in 0..list.pairs {
+        let o = step(list, delay_list::place(list.pairs, i, down), scratch);
         all = all.max(o);
     }
     all
 }
 
 // Passes up and down the list until nothing changes: true where no pair forces more, false where a register is forced both ways.
-fn propagate(words: &[u32], n: usize, m: usize, scratch: &mut [u32]) -> bool
-    requires { Lent words.now n m scratch.old }
-    ensures { Propagated words.now n scratch.old scratch.new result }
+fn propagate(list: DelayList, scratch: &mut [u32]) -> bool
+    requires { Lent list.words.now list.registers list.pairs scratch.old }
+    ensures { Propagated list.entry.words.now list.entry.registers scratch.old scratch.new result }
 {
     let mut down = false;
     loop {
-        match sweep(words, n, m, down, scratch) {
+        match sweep(list, down, scratch) {
             Change::Settled => return true,
             Change::Clash => return false,
             Change::Changed => {}
@@ -77,40 +77,32 @@ fn record_pair(pair: Pair, period: u32, offset: u32, at: usize, flags: &mut [u32
 }
 
 // The broken choices of all pairs.
-fn record_broken(words: &[u32], period: u32, offset: u32, m: usize, flags: &mut [u32])
-    requires { UsableList words.now (registers words.now) m × (per_pair * m ≤ length flags.old) }
-    ensures { flags.new ≡ over (flags_to period offset words.now m) flags.old }
+fn record_broken(list: DelayList, period: u32, offset: u32, flags: &mut [u32])
+    requires { per_pair * list.pairs ≤ length flags.old }
+    ensures { flags.new ≡ over (flags_to period offset list.entry.words.now list.entry.pairs) flags.old }
 {
-    for k in 0..m {
-        let pair = delay_list::pair_at(words, k);
-        record_pair(pair, period, offset, PER_PAIR * k, flags);
+    for k in 0..list.pairs {
+        record_pair(list.pair(k), period, offset, PER_PAIR * k, flags);
     }
 }
 
 // Blank marks, and the broken choices of the pairs in the part of the scratch from place 6n on.
-pub fn prepare(words: &[u32], period: u32, offset: u32, n: usize, m: usize, scratch: &mut [u32])
-    requires { Lent words.now n m scratch.old }
-    ensures { Prepared period offset words.now n scratch.old scratch.new }
+pub fn prepare(list: DelayList, period: u32, offset: u32, scratch: &mut [u32])
+    requires { Lent list.words.now list.registers list.pairs scratch.old }
+    ensures { Prepared period offset list.entry.words.now list.entry.registers scratch.old scratch.new }
 {
-    buffers::clear(scratch, n);
-    let cut = PER_REGISTER * n;
-    record_broken(words, period, offset, m, &mut scratch[cut..]);
+    buffers::clear(scratch, list.registers);
+    let cut = PER_REGISTER * list.registers;
+    record_broken(list, period, offset, &mut scratch[cut..]);
 }
 
 // Whether some split works; if so the marks are those of the first.
-pub fn decide(
-    words: &[u32],
-    period: u32,
-    offset: u32,
-    n: usize,
-    m: usize,
-    scratch: &mut [u32],
-) -> bool
-    requires { Lent words.now n m scratch.old }
-    ensures { Decided period offset words.now n scratch.old scratch.new result }
+pub fn decide(list: DelayList, period: u32, offset: u32, scratch: &mut [u32]) -> bool
+    requires { Lent list.words.now list.registers list.pairs scratch.old }
+    ensures { Decided period offset list.entry.words.now list.entry.registers scratch.old scratch.new result }
 {
-    prepare(words, period, offset, n, m, scratch);
-    propagate(words, n, m, scratch)
+    prepare(list, period, offset, scratch);
+    propagate(list, scratch)
 }
 
 // The timings of the first n marks.

@@ -14,9 +14,11 @@ use Rattle.list_format.specs.Lists.{registers, pair_count, pairs, list_checks, I
 use Rattle.list_format.proofs.ListLaws.{HeadIn, accepted→none, accepted-in, numbers-in}
 use Rattle.free_laws.specs.Free.{common, free_period, free_schedule}
 use Rattle.plan_laws.specs.Plan.{two_period, two_offset, two_timings}
-use Rattle.planner.specs.PlanCall.{plan_call_checks, planning, plan_reply, PlanAs}
-use Rattle.planner.specs.declared.Planning.{Planning}
-use Rattle.planner.specs.declared.Planning.TheVariants.{Planned, Refused}
+use Rattle.planner.specs.PlanCall.{Planning, plan_call_checks, planning, plan_reply, PlanAs}
+use Rattle.std.specs.Prelude.{Ok, Err}
+use Rattle.refusals.specs.Checks.{number_of}
+use Rattle.refusals.specs.declared.Refused.{Refused}
+use Rattle.planner.specs.declared.Planned.{Planned}
 use Rattle.text_pieces.specs.Pieces.{refused_width, Put}
 use Rattle.text_pieces.proofs.PutLaws.{put-within}
 use Rattle.report.specs.Report.{periods_width, register_width, plan_line, register_lines, plan_lines, refused_line, text_places, plan_of, report}
@@ -33,15 +35,15 @@ module _ {ws answer scratch : List ℕ} {r : Planning} (a : PlanAs ws (zeros (2 
   plan-reply = rw (zeros-size (2 * max_registers), zeros-size max_scratch) at a.reply
 
   -- the text of a refusal
-  pub text-refused : {number place next : ℕ} {was now : List ℕ} → r ≡ Refused number place
-      → Put refused_width (refused_line number place) was 0 now next
+  pub text-refused : {why : Refused} {next : ℕ} {was now : List ℕ} → r ≡ Err why
+      → Put refused_width (refused_line (number_of why.refusal) why.place) was 0 now next
       → Put text_places (told refused_line (plan_lines (registers ws)) (plan_of ws)) was 0 now next
   unfolding plan_reply
   text-refused e put =
       rw (told-refusal refused_line (plan_lines (registers ws)) (plan_of ws) (rw e at plan-reply)) (put-within put (omega (arith, put.most)))
 
-  module _ {c f t o : ℕ} (e : r ≡ Planned c f t o) where
-    plan-told : numbers (c ∷ f ∷ t ∷ o ∷ []) ≡ reply_of (plan_of ws)
+  module _ {p : Planned} (e : r ≡ Ok p) where
+    plan-told : numbers (p.common ∷ p.free ∷ p.two ∷ p.offset ∷ []) ≡ reply_of (plan_of ws)
     unfolding plan_reply
     plan-told = rw e at plan-reply
 
@@ -51,7 +53,7 @@ module _ {ws answer scratch : List ℕ} {r : Planning} (a : PlanAs ws (zeros (2 
 
     -- the text of a plan
     pub text-planned : {n next : ℕ} {was now : List ℕ} → n ≡ registers ws
-        → Put (periods_width + register_width * n) (plan_lines n (c ∷ f ∷ t ∷ o ∷ []) answer) was 0 now next
+        → Put (periods_width + register_width * n) (plan_lines n (p.common ∷ p.free ∷ p.two ∷ p.offset ∷ []) answer) was 0 now next
         → Put text_places (told refused_line (plan_lines (registers ws)) (plan_of ws)) was 0 now next
     text-planned {n} h put =
         let few : n ≤ max_registers = omega (arith, planned-in.most) in

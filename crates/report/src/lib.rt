@@ -10,7 +10,7 @@ ghost use Rattle.refusals.specs.Reply.{told};
 ghost use Rattle.list_format.specs.Lists.{registers};
 
 use list_bytes::MAX_WORDS;
-use planner::Planning;
+use planner::Planned;
 use text_pieces::{put_named, put_number, put_refused};
 use timing::{MAX_REGISTERS, MAX_SCRATCH};
 
@@ -21,14 +21,15 @@ const ANSWER_PLACES: usize = 2 * MAX_REGISTERS as usize;
 pub const TEXT_PLACES: usize = 32_768;
 
 // Line one: the three periods and the offset.
-fn put_periods(text: &mut [u8], common: u32, free: u32, two: u32, offset: u32) -> usize
+fn put_periods(text: &mut [u8], plan: Planned) -> usize
     requires { periods_width ≤ length text.old }
-    ensures { Put periods_width (periods_line (common ∷ free ∷ two ∷ offset ∷ [])) text.old 0 text.new result }
+    ensures { Put periods_width (periods_line (plan.common ∷ plan.free ∷ plan.two ∷ plan.offset ∷ []))
+        text.old 0 text.new result }
 {
-    let a = put_named(text, 0, b"common ", common as u64, b' ');
-    let b = put_named(text, a, b"free ", free as u64, b' ');
-    let c = put_named(text, b, b"two ", two as u64, b' ');
-    put_named(text, c, b"offset ", offset as u64, b'\n')
+    let a = put_named(text, 0, b"common ", plan.common as u64, b' ');
+    let b = put_named(text, a, b"free ", plan.free as u64, b' ');
+    let c = put_named(text, b, b"two ", plan.two as u64, b' ');
+    put_named(text, c, b"offset ", plan.offset as u64, b'\n')
 }
 
 // A register, its free timing, its two-timing value.
@@ -47,29 +48,19 @@ fn put_registers(text: &mut [u8], at: usize, answer: &[u32], n: usize) -> usize
     ensures { Put (register_width * n) (register_lines n answer.now) text.old at text.new result }
 {
     let mut last = at;
-    let mut r = 0;
-    while r < n {
+    for r in 0..n {
         last = put_register(text, last, r, answer[r], answer[n + r]);
-        r += 1;
     }
     last
 }
 
 // Line one, and a line for each of n registers.
-fn put_planned(
-    text: &mut [u8],
-    common: u32,
-    free: u32,
-    two: u32,
-    offset: u32,
-    answer: &[u32],
-    n: usize,
-) -> usize
+fn put_planned(text: &mut [u8], plan: Planned, answer: &[u32], n: usize) -> usize
     requires { (2 * n ≤ length answer.now) × (periods_width + register_width * n ≤ length text.old) }
-    ensures { Put (periods_width + register_width * n) (plan_lines n (common ∷ free ∷ two ∷ offset ∷ []) answer.now)
+    ensures { Put (periods_width + register_width * n) (plan_lines n (plan.common ∷ plan.free ∷ plan.two ∷ plan.offset ∷ []) answer.now)
         text.old 0 text.new result }
 {
-    let at = put_periods(text, common, free, two, offset);
+    let at = put_periods(text, plan);
     put_registers(text, at, answer, n)
 }
 
@@ -82,10 +73,10 @@ fn put_text(text: &mut [u8], words: &[u32]) -> usize
     let mut answer = [0u32; ANSWER_PLACES];
     let mut scratch = [0u32; MAX_SCRATCH];
     match planner::plan(words, &mut answer, &mut scratch) {
-        Planning::Refused(number, place) => put_refused(text, number, place, b'\n'),
-        Planning::Planned(common, free, two, offset) => {
+        Err(refused) => put_refused(text, refused.refusal.number(), refused.place, b'\n'),
+        Ok(plan) => {
             let n = words::head_registers(words[0]) as usize;
-            put_planned(text, common, free, two, offset, &answer, n)
+            put_planned(text, plan, &answer, n)
         }
     }
 }

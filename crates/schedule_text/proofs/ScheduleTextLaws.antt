@@ -10,15 +10,14 @@ use Rattle.refusals.specs.Reply.{numbers, Outcome, reply_of, buffer_after, told}
 use Rattle.refusals.proofs.ReplyLaws.{told-refusal, told-numbers}
 use Rattle.list_format.specs.Lists.{registers, pair_count}
 use Rattle.list_format.proofs.ListLaws.{HeadIn, numbers-in}
-use Rattle.free_schedule.specs.FreeCall.{freeing, free_reply, room_checks, FreeAs}
-use Rattle.free_schedule.specs.declared.FreeAnswer.{FreeAnswer}
-use Rattle.free_schedule.specs.declared.FreeAnswer.TheVariants.{Periods, Refused}
-use Rattle.split.specs.Splitting.{split_call_checks, splitting, split_reply, SplitAs}
-use Rattle.split.specs.declared.Splitting.{Splitting}
-use Rattle.split.specs.declared.Splitting.TheVariants.{Split, NoSplit, Refused as NotSplit}
+use Rattle.free_schedule.specs.FreeCall.{Freed, freeing, free_reply, room_checks, FreeAs}
+use Rattle.std.specs.Prelude.{true, false, Ok, Err}
+use Rattle.refusals.specs.Checks.{number_of}
+use Rattle.refusals.specs.declared.Refused.{Refused}
+use Rattle.free_schedule.specs.declared.Periods.{Periods}
+use Rattle.split.specs.Splitting.{Splitting, split_call_checks, splitting, split_reply, SplitAs}
 use Rattle.text_pieces.specs.Pieces.{Put, letters}
-use Rattle.text_pieces.specs.Saying.{SaidAs}
-use Rattle.text_pieces.specs.declared.Said.TheVariants.{Text, Trouble}
+use Rattle.text_pieces.specs.Saying.{SaidAs, trouble_of}
 use Rattle.text_pieces.proofs.SaidLaws.{said-text, said-trouble}
 use Rattle.refusal_text.specs.RefusalText.{line_width, caused_line, refusal_line, refused_saying}
 use Rattle.schedule_text.specs.ScheduleText.{timing_width, free_width, split_width, timing_line, timing_lines, schedule_places, free_line, free_said}
@@ -37,19 +36,19 @@ free-same n k xs ys = rw (lines-over n k ys)
 abbrev free_of : List ℕ → Outcome
 free_of ws = freeing ws max_registers
 
-module _ {ws now : List ℕ} {r : FreeAnswer} (a : FreeAs ws (zeros max_registers) now r) where
+module _ {ws now : List ℕ} {r : Freed} (a : FreeAs ws (zeros max_registers) now r) where
   free-reply : free_reply r ≡ reply_of (free_of ws)
   free-reply = rw (zeros-size max_registers) at a.reply
 
-  pub free-refused : {number place next : ℕ} {text text' : List ℕ} → r ≡ Refused number place
-      → Put line_width (refusal_line number place) text 0 text' next
-      → SaidAs schedule_places (told refused_saying (free_said (registers ws)) (free_of ws)) text text' (Trouble next)
+  pub free-refused : {why : Refused} {next : ℕ} {text text' : List ℕ} → r ≡ Err why
+      → Put line_width (refusal_line (number_of why.refusal) why.place) text 0 text' next
+      → SaidAs schedule_places (told refused_saying (free_said (registers ws)) (free_of ws)) text text' (Err (trouble_of next))
   unfolding free_reply
   free-refused e put =
       rw (told-refusal refused_saying (free_said (registers ws)) (free_of ws) (rw e at free-reply)) (said-trouble put (omega arith))
 
-  module _ {c f : ℕ} (e : r ≡ Periods c f) where
-    free-told : numbers (c ∷ f ∷ []) ≡ reply_of (free_of ws)
+  module _ {p : Periods} (e : r ≡ Ok p) where
+    free-told : numbers (p.common ∷ p.free ∷ []) ≡ reply_of (free_of ws)
     unfolding free_reply
     free-told = rw e at free-reply
 
@@ -58,8 +57,8 @@ module _ {ws now : List ℕ} {r : FreeAnswer} (a : FreeAs ws (zeros max_register
     free_in = (numbers-in ws (room_checks (registers ws) max_registers) _ free-told).head
 
     pub free-periods : {n next : ℕ} {text text' : List ℕ} → n ≡ registers ws
-        → Put (free_width + timing_width * n) (free_line c f ++ timing_lines n now) text 0 text' next
-        → SaidAs schedule_places (told refused_saying (free_said (registers ws)) (free_of ws)) text text' (Text next)
+        → Put (free_width + timing_width * n) (free_line p.common p.free ++ timing_lines n now) text 0 text' next
+        → SaidAs schedule_places (told refused_saying (free_said (registers ws)) (free_of ws)) text text' (Ok next)
     free-periods {n} h put =
         let few : n ≤ max_registers = omega (arith, free_in.most) in
         let stored : now ≡ buffer_after (free_of ws) (zeros max_registers) = rw (zeros-size max_registers) at a.stored in
@@ -80,9 +79,9 @@ module _ {ws now scratch' : List ℕ} {t s : ℕ} {r : Splitting} (a : SplitAs w
   split-reply : split_reply r ≡ reply_of (split_of ws t s)
   split-reply = rw (zeros-size max_registers, zeros-size max_scratch) at a.reply
 
-  pub split-refused : {number place next : ℕ} {text text' : List ℕ} → r ≡ NotSplit number place
-      → Put line_width (caused_line number place (split_cause t number)) text 0 text' next
-      → SaidAs schedule_places (told (split_refused t) (split_said (registers ws)) (split_of ws t s)) text text' (Trouble next)
+  pub split-refused : {why : Refused} {next : ℕ} {text text' : List ℕ} → r ≡ Err why
+      → Put line_width (caused_line (number_of why.refusal) why.place (split_cause t (number_of why.refusal))) text 0 text' next
+      → SaidAs schedule_places (told (split_refused t) (split_said (registers ws)) (split_of ws t s)) text text' (Err (trouble_of next))
   unfolding split_reply
   split-refused e put =
       rw (told-refusal (split_refused t) (split_said (registers ws)) (split_of ws t s) (rw e at split-reply)) (said-trouble put (omega arith))
@@ -94,12 +93,12 @@ module _ {ws now scratch' : List ℕ} {t s : ℕ} {r : Splitting} (a : SplitAs w
       let same = split-same (registers ws) max_registers in
       rw stored (told-numbers (split_refused t) (split_said (registers ws)) (zeros max_registers) same (split_of ws t s) (e ∙ split-reply))
 
-  pub split-none : {next : ℕ} {text text' : List ℕ} → r ≡ NoSplit → Put 9 (letters "no split\n") text 0 text' next
-      → SaidAs schedule_places (told (split_refused t) (split_said (registers ws)) (split_of ws t s)) text text' (Text next)
+  pub split-none : {next : ℕ} {text text' : List ℕ} → r ≡ Ok false → Put 9 (letters "no split\n") text 0 text' next
+      → SaidAs schedule_places (told (split_refused t) (split_said (registers ws)) (split_of ws t s)) text text' (Ok next)
   unfolding split_reply
   split-none e put = rw (split_by {xs = 0 ∷ []} (rw e)) (said-text put (omega arith))
 
-  module _ (e : r ≡ Split) where
+  module _ (e : r ≡ Ok true) where
     split-told : numbers (1 ∷ []) ≡ split_reply r
     unfolding split_reply
     split-told = rw e
@@ -110,7 +109,7 @@ module _ {ws now scratch' : List ℕ} {t s : ℕ} {r : Splitting} (a : SplitAs w
 
     pub split-found : {n next : ℕ} {text text' : List ℕ} → n ≡ registers ws
         → Put (split_width + timing_width * n) (letters "split\n" ++ timing_lines n now) text 0 text' next
-        → SaidAs schedule_places (told (split_refused t) (split_said (registers ws)) (split_of ws t s)) text text' (Text next)
+        → SaidAs schedule_places (told (split_refused t) (split_said (registers ws)) (split_of ws t s)) text text' (Ok next)
     split-found {n} h put =
         let few : n ≤ max_registers = omega (arith, split-in.most) in
         rw (split_by {xs = 1 ∷ []} split-told, ← h) (said-text put (omega arith))

@@ -6,49 +6,40 @@ ghost use Rattle.std.specs.Prelude.{◌≡◌, Ok};
 ghost use Rattle.refusals.specs.Checks.{first_fault};
 ghost use Rattle.split.specs.Splitting.{split_call_checks, SplitAs, SplitAllowed};
 
-use list_format::Counts;
+use delay_list::DelayList;
 use refusals::{Refusal, Refused, check};
 
-// 3, 2 and 1, for a list of n registers and m pairs.
+// 3, 2 and 1, for an accepted list.
 #[tactic(auto, unfolding(refusals::specs::Checks::or_check, refusals::specs::Checks::fault_after))]
 fn call_fault(
-    counts: Counts,
+    list: DelayList,
     period: u32,
     offset: u32,
     room: usize,
     spare: usize,
 ) -> Result<(), Refused>
-    ensures { result ≡ first_fault (split_call_checks counts.registers counts.pairs period offset room spare) }
+    ensures { result ≡ first_fault (split_call_checks list.entry.registers list.entry.pairs period offset room spare) }
 {
-    let n = counts.registers as usize;
-    let need = timing::scratch_places(n, counts.pairs as usize);
+    let need = timing::scratch_places(list.registers, list.pairs);
     check(period == 0, Refusal::Call, 0)?;
     check(period > timing::MAX_PERIOD, Refusal::Call, 0)?;
     check(offset > timing::MAX_OFFSET, Refusal::Call, 0)?;
-    check(room < n, Refusal::Room, 0)?;
+    check(room < list.registers, Refusal::Room, 0)?;
     check(spare < need, Refusal::Scratch, 0)
 }
 
-// Whether some split works, for an accepted list with n registers and m pairs. If so the first one is stored; the scratch is left zero.
-fn show(
-    words: &[u32],
-    period: u32,
-    offset: u32,
-    n: usize,
-    m: usize,
-    answer: &mut [u32],
-    scratch: &mut [u32],
-) -> bool
-    requires { SplitAllowed words.now period offset n m answer.old scratch.old }
-    ensures { SplitAs words.now period offset answer.old answer.new
+// Whether some split works, for an accepted list. If so the first one is stored; the scratch is left zero.
+fn show(list: DelayList, period: u32, offset: u32, answer: &mut [u32], scratch: &mut [u32]) -> bool
+    requires { SplitAllowed list.words.now period offset list.registers list.pairs answer.old scratch.old }
+    ensures { SplitAs list.entry.words.now period offset answer.old answer.new
         scratch.old scratch.new (Ok result) }
 {
-    let end = timing::scratch_places(n, m);
-    if !propagate::decide(words, period, offset, n, m, scratch) {
+    let end = timing::scratch_places(list.registers, list.pairs);
+    if !propagate::decide(list, period, offset, scratch) {
         buffers::clear(scratch, end);
         return false;
     }
-    propagate::write_split(scratch, n, offset, answer);
+    propagate::write_split(scratch, list.registers, offset, answer);
     buffers::clear(scratch, end);
     true
 }
@@ -65,9 +56,7 @@ pub fn split(
     ensures { SplitAs words.now period offset answer.old answer.new
         scratch.old scratch.new result }
 {
-    let counts = delay_list::verdict(words)?;
-    call_fault(counts, period, offset, answer.len(), scratch.len())?;
-    let n = counts.registers as usize;
-    let m = counts.pairs as usize;
-    Ok(show(words, period, offset, n, m, answer, scratch))
+    let list = DelayList::accepted(words)?;
+    call_fault(list, period, offset, answer.len(), scratch.len())?;
+    Ok(show(list, period, offset, answer, scratch))
 }

@@ -14,7 +14,11 @@ enum Choice {
 impl Choice {
     // A choice by a digit in base two.
     fn of(digit: u32) -> Choice {
-        if digit == 0 { Choice::Early } else { Choice::Late }
+        if digit == 0 {
+            Choice::Early
+        } else {
+            Choice::Late
+        }
     }
 
     fn opposite(self) -> Choice {

@@ -10,11 +10,15 @@ fn show_reason(rt: &impl Print, r: Result<Option<Blocked>, Refused>) -> io::Resu
     match r {
         Err(refused) => show::refusal(rt, refused),
         Ok(None) => rt.println("workable"),
-        Ok(Some(Blocked {
-            register,
-            first,
-            second,
-        })) => println!(rt; "blocked at {register} by {first} and {second} steps"),
+        Ok(
+            Some(
+                Blocked {
+                    register,
+                    first,
+                    second,
+                },
+            ),
+        ) => println!(rt; "blocked at {register} by {first} and {second} steps"),
     }
 }
 

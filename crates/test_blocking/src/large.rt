@@ -26,7 +26,11 @@ const PERIOD: u32 = 8;
 // Along the list the next is forced, against it register r.
 fn link(r: u32, by_hold: bool, against: bool) -> Pair {
     let next = r.saturating_add(1);
-    let (launch, capture) = if by_hold == against { (r, next) } else { (next, r) };
+    let (launch, capture) = if by_hold == against {
+        (r, next)
+    } else {
+        (next, r)
+    };
     if by_hold {
         return [launch, capture, 0, PERIOD - 1];
     }

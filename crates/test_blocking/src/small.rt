@@ -4,8 +4,8 @@ ghost use Rattle.std.specs.Prelude.{◌≤◌};
 
 use crate::chains;
 use std::io;
-use test_kit::lists::{List, Pair, needless};
-use test_kit::places::{DIRT, front};
+use test_kit::lists::{List, Pair, Pairs, needless};
+use test_kit::places::DIRT;
 use test_kit::random;
 use test_kit::tally::{Fate, Tally};
 
@@ -64,22 +64,19 @@ fn pair(choice: u32, key: u32, n: u32) -> Option<Pair>
     Some([key / n, key % n, least, greatest])
 }
 
-// The pairs of list v of n registers, by its digits in base eleven: one for each key. The answer is how many there are.
-fn chosen(n: u32, v: u32, pairs: &mut [Pair]) -> usize
+// The pairs of list v of n registers, by its digits in base eleven: one for each key.
+fn chosen(n: u32, v: u32) -> Pairs<4>
     requires { 1 ≤ n }
 {
     let mut digits = v;
-    let mut m = 0;
+    let mut pairs = Pairs::none();
     for key in 0..n.saturating_mul(n) {
         if let Some(p) = pair(digits % CHOICES, key, n) {
-            if m < pairs.len() {
-                pairs[m] = p;
-                m += 1;
-            }
+            pairs.push(p);
         }
         digits /= CHOICES;
     }
-    m
+    pairs
 }
 
 // All lists of n registers, of which there are so many.
@@ -88,9 +85,8 @@ fn every(n: u32, lists: u32) -> Tally
 {
     let mut tally = Tally::none();
     for v in 0..lists {
-        let mut pairs = [[0u32; 4]; 4];
-        let m = chosen(n, v, &mut pairs);
-        tally = periods(needless(n as usize, front(&pairs, m)), tally);
+        let pairs = chosen(n, v);
+        tally = periods(needless(n as usize, pairs.all()), tally);
     }
     tally
 }
@@ -108,7 +104,10 @@ fn many(most: u32) -> Tally {
 }
 
 fn tell(rt: &impl Print, label: &str, t: Tally) -> io::Result<()> {
-    println!(rt; "{label}{} workable, {} blocked, {} wrong", t.void, t.right, t.wrong)
+    println!(rt;
+        "{label}{} workable, {} blocked, {} wrong",
+        t.void, t.right, t.wrong
+    )
 }
 
 pub fn lists(rt: &impl Print) -> io::Result<()> {

@@ -1,63 +1,77 @@
 // Random lists whose pairs come in any order and repeat.
 ghost use Rattle.std.specs.Prelude.{◌≤◌};
-ghost use Rattle.timing.specs.Limits.{max_registers, max_pairs};
 
-use test_kit::random;
-use test_kit::random::{Drawn, next, up_to};
-use test_kit::rules::hold_of;
+use test_kit::lists::{List, Pair};
+use test_kit::random::{Drawn, needs, next, up_to};
+use test_kit::tally::{Fate, Tally};
 
-// A pair of registers up to `last` and delays up to `most` with the hold of the capture register on top, stored from `at` on.
-// The answer is the next seed.
-fn pair(seed: u64, last: u32, most: u32, needs: &[u32], at: usize, numbers: &mut [u32]) -> u64 {
+// Places enough for the words of a list.
+const WORDS: usize = 96;
+
+// A pair of n registers and delays up to `most` with the hold of the capture register on top; and the next seed.
+fn pair(seed: u64, n: u32, most: u32, list: List<'_>) -> (Pair, u64) {
     let a = next(seed);
     let b = next(a);
     let c = next(b);
     let d = next(c);
+    let last = n.saturating_sub(1);
     let capture = up_to(b, last);
-    let hold = hold_of(needs, capture);
+    let [hold, _] = list.needs_of(capture);
     let greatest = up_to(c, most);
-    random::put(
-        numbers,
-        at,
+    let least = up_to(d, greatest);
+    let p = [
         up_to(a, last),
         capture,
-        std::num::wrapping_add_u32(up_to(d, greatest), hold),
-        std::num::wrapping_add_u32(greatest, hold),
-    );
+        least.saturating_add(hold),
+        greatest.saturating_add(hold),
+    ];
+    (p, d)
+}
+
+// A list of up to N registers, no fewer than one, and up to M pairs, with delays up to `delay`, more with a hold, and needs up to `need`.
+fn list<const N: usize, const M: usize>(seed: u64, delay: u32, need: u32) -> Drawn<N, M>
+    requires { (N ≤ 64) × (M ≤ 64) }
+{
+    let second = next(seed);
+    let n = 1 + up_to(seed, (N as u32).saturating_sub(1));
+    let mut d = Drawn {
+        needs: [[0; 2]; N],
+        pairs: [[0; 4]; M],
+        n: n as usize,
+        m: up_to(second, M as u32) as usize,
+        seed,
+    };
+    let mut s = needs(second, need, &mut d.needs);
+    let drawn = List {
+        pairs: &[],
+        needs: &d.needs,
+    };
+    for p in d.pairs.iter_mut().take(d.m) {
+        (*p, s) = pair(s, n, delay, drawn);
+    }
+    d.seed = s;
     d
 }
 
-fn pairs(seed: u64, last: u32, most: u32, m: usize, needs: &[u32], numbers: &mut [u32]) -> u64
-    requires { m ≤ max_pairs }
-{
-    let mut s = seed;
-    for k in 0..m {
-        s = pair(s, last, most, needs, 4 * k, numbers);
-    }
-    s
-}
-
-// A list of up to `registers` registers, no fewer than one, and up to `most` pairs, with delays up to `delay`, more with a hold, and
-// needs up to `need`.
-pub fn list(
+// How so many random lists fare, each judged by the list as it was drawn and the words in which it is stored.
+pub fn many_stored<const N: usize, const M: usize, F: Fn(List<'_>, &[u32]) -> Fate>(
     seed: u64,
-    registers: u32,
-    most: u32,
+    lists: u32,
     delay: u32,
     need: u32,
-    numbers: &mut [u32],
-    needs: &mut [u32],
-) -> Drawn
-    requires { (1 ≤ registers) × ((registers ≤ max_registers) × (most ≤ max_pairs)) }
-    ensures { (result.n ≤ max_registers) × (result.m ≤ max_pairs) }
+    judge: F,
+) -> Tally
+    requires size { (N ≤ 64) × (M ≤ 64) }
+    requires callable { F.IsAlwaysCallable judge }
 {
-    let second = next(seed);
-    let last = up_to(seed, registers - 1);
-    let m = up_to(second, most) as usize;
-    let after = random::needs(second, need, needs);
-    Drawn {
-        n: last + 1,
-        m,
-        seed: pairs(after, last, delay, m, needs, numbers),
+    let mut tally = Tally::none();
+    let mut next = seed;
+    for _ in 0..lists {
+        let mut words = [0u32; WORDS];
+        let d = list::<N, M>(next, delay, need);
+        let drawn = d.list();
+        tally = tally.with(judge(drawn, drawn.store(&mut words)));
+        next = d.seed;
     }
+    tally
 }

@@ -1,15 +1,13 @@
 // Lists of 512 registers and 2,048 pairs in descending and in scattered order, without repeats and with them.
-ghost use Rattle.std.specs.Prelude.{◌^◌, ◌<◌, ◌≤◌};
-
-use converter::Converting;
-use list_format::{Reading, Writing};
+use list_format::Counts;
 use std::io;
-use test_kit::places::{DIRT, front, kept, rest, same};
-use test_kit::rules::number;
-use test_kit::{largest, random, show};
-use timing::{MAX_NEED, MAX_PAIRS};
+use test_kit::largest::{PAIRS, READ, REGISTERS, WORDS};
+use test_kit::lists::{List, Pair};
+use test_kit::places::{DIRT, front, kept};
+use test_kit::{random, show};
+use timing::{MAX_NEED, MAX_REGISTERS};
 
-const ALL: u32 = MAX_PAIRS as u32;
+const ALL: u32 = PAIRS as u32;
 
 // Every register launches four pairs, to registers so far apart.
 const APART: u32 = 100;
@@ -28,121 +26,87 @@ fn turn(k: u32, scattered: bool) -> u32 {
     ALL - 1 - k % ALL
 }
 
-// The least delay of pair j, which no hold is above.
-fn least(j: u32) -> u32
-    ensures { result < 2 ^ 20 }
-{
-    j % ALL + MAX_NEED
+// The pair with a key, with the least delay of pair `first` and the greatest of pair `last`. No hold is above a delay.
+fn pair(key: u32, first: u32, last: u32) -> Pair {
+    let least = first % ALL + MAX_NEED;
+    let greatest = last % ALL + MAX_NEED + MORE;
+    [key / 4, key % 4 * APART, least, greatest]
 }
 
-// The numbers of all pairs as they come, each with as many copies that differ in their delays.
-fn numbers(scattered: bool, copies: u32, out: &mut [u32])
-    requires { 1 ≤ copies }
-{
-    for k in 0..ALL {
+// All pairs as they come, each with as many copies that differ in their delays.
+fn given(scattered: bool, copies: u32) -> [Pair; PAIRS] {
+    let mut pairs = [[0; 4]; PAIRS];
+    for (k, p) in (0..ALL).zip(pairs.iter_mut()) {
         let j = turn(k, scattered);
-        put(j, j / copies, out, 4 * (k as usize));
+        *p = pair(j / copies.max(1), j, j);
     }
+    pairs
 }
 
-fn put(j: u32, key: u32, out: &mut [u32], at: usize) {
-    let low = least(j);
-    random::put(out, at, key / 4, key % 4 * APART, low, low + MORE);
-}
-
-// Whether the converted list has pair j joined with its copies, at the place of their key.
-fn right(read: &[u32], j: u32, copies: u32) -> bool
-    requires { 1 ≤ copies }
-{
-    let key = j / copies % ALL;
-    let at = key as usize;
-    let first = std::num::wrapping_sub_u32(j, j % copies);
-    let last = std::num::wrapping_add_u32(first, copies - 1);
-    number(read, at, 0) == key / 4
-        && number(read, at, 1) == key % 4 * APART
-        && number(read, at, 2) == least(first)
-        && number(read, at, 3) == least(last) + MORE
-}
-
-fn all_right(read: &[u32], copies: u32) -> bool
-    requires { 1 ≤ copies }
-{
-    for j in 0..ALL {
-        if !right(read, j, copies) {
-            return false;
-        }
+// The pairs of the converted list, each joined with its copies; as many as there are keys count.
+fn joined(copies: u32) -> [Pair; PAIRS] {
+    let mut pairs = [[0; 4]; PAIRS];
+    for (key, p) in (0..ALL).zip(pairs.iter_mut()) {
+        let first = key.saturating_mul(copies);
+        *p = pair(key, first, first.saturating_add(copies).saturating_sub(1));
     }
-    true
+    pairs
 }
 
-// Whether what was read is the list of n registers with m pairs and these needs.
-fn as_asked(back: &[u32], n: u32, m: u32, needs: &[u32], copies: u32) -> bool
-    requires { 1 ≤ copies }
-{
-    n == largest::REGISTERS
-        && m == ALL / copies
-        && all_right(back, copies)
-        && same(rest(back, 4 * (m as usize)), needs, needs.len())
-}
-
-// Reads a converted list, and tells whether it is what it should be.
-fn tell(rt: &impl Print, words: &[u32], needs: &[u32], copies: u32) -> io::Result<()>
-    requires { 1 ≤ copies }
-{
-    let mut back = [DIRT; largest::READ];
+// Reads a converted list, and tells whether it has these needs and the joined pairs.
+fn tell(rt: &impl Print, words: &[u32], needs: &[[u32; 2]], copies: u32) -> io::Result<()> {
+    let mut back = [DIRT; READ];
+    let pairs = joined(copies);
+    let m = ALL / copies.max(1);
+    let list = List {
+        pairs: front(&pairs, m as usize),
+        needs,
+    };
     match read_list::read(words, &mut back) {
-        Reading::Refused(code, place) => show::refusal(rt, code, place),
-        Reading::Read(n, m) => {
-            show::count(rt, m, " pairs, ")?;
-            show_right(rt, as_asked(&back, n, m, needs, copies))
+        Err(refused) => show::refusal(rt, refused),
+        Ok(counts) => {
+            let asked = Counts {
+                registers: MAX_REGISTERS,
+                pairs: m,
+            };
+            let right = counts == asked && list.is_read_into(&back);
+            println!(rt;
+                "{} pairs, {}",
+                counts.pairs,
+                if right { "right" } else { "wrong" }
+            )
         }
     }
-}
-
-fn show_right(rt: &impl Print, yes: bool) -> io::Result<()> {
-    if yes {
-        return show::text(rt, "right\n");
-    }
-    show::text(rt, "wrong\n")
 }
 
 // Converts a list, and tells of every place of the buffer.
-fn converted(rt: &impl Print, words: &[u32], needs: &[u32], copies: u32) -> io::Result<()>
-    requires { 1 ≤ copies }
-{
-    let mut answer = [DIRT; largest::WORDS];
+fn converted(rt: &impl Print, words: &[u32], needs: &[[u32; 2]], copies: u32) -> io::Result<()> {
+    let mut answer = [DIRT; WORDS];
     match converter::convert(words, &mut answer) {
-        Converting::Refused(code, place) => show::refusal(rt, code, place),
-        Converting::Converted(count) => {
-            show::number(rt, count as u64)?;
-            show::text(rt, " words, later places ")?;
-            show_kept(rt, kept(&answer, count))?;
+        Err(refused) => show::refusal(rt, refused),
+        Ok(count) => {
+            let behind = if kept(&answer, count) {
+                "kept"
+            } else {
+                "changed"
+            };
+            print!(rt; "{count} words, later places {behind}, ")?;
             tell(rt, front(&answer, count), needs, copies)
         }
     }
 }
 
-fn show_kept(rt: &impl Print, yes: bool) -> io::Result<()> {
-    if yes {
-        return show::text(rt, "kept, ");
-    }
-    show::text(rt, "changed, ")
-}
-
 // All pairs with needs up to `need`.
-fn list(rt: &impl Print, label: &str, scattered: bool, copies: u32, need: u32) -> io::Result<()>
-    requires { 1 ≤ copies }
-{
-    let mut given = [0u32; largest::NUMBERS];
-    let mut needs = [0u32; largest::NEEDS];
-    let mut words = [0u32; largest::WORDS];
-    numbers(scattered, copies, &mut given);
+fn list(rt: &impl Print, label: &str, scattered: bool, copies: u32, need: u32) -> io::Result<()> {
+    let mut needs = [[0u32; 2]; REGISTERS];
+    let mut words = [0u32; WORDS];
     random::needs(31, need, &mut needs);
-    show::text(rt, label)?;
-    match write_list::write_stored(largest::REGISTERS, &given, &needs, &mut words) {
-        Writing::Refused(code, place) => show::refusal(rt, code, place),
-        Writing::Written(count) => converted(rt, front(&words, count), &needs, copies),
-    }
+    let stored = List {
+        pairs: &given(scattered, copies),
+        needs: &needs,
+    };
+    rt.print(label)?;
+    converted(rt, stored.store(&mut words), &needs, copies)
 }
 
 pub fn lists(rt: &impl Print) -> io::Result<()> {

@@ -7,7 +7,6 @@ mod drawn;
 mod examples;
 mod jobs;
 mod large;
-mod plain;
 mod refused;
 mod show;
 mod small;

@@ -1,13 +1,13 @@
 // Worked examples: lists that are refused. The buffer is kept.
 use crate::show::{convert, into};
 use std::io;
-use test_kit::lists::TWICE;
+use test_kit::lists::{TWICE, seal};
 
 // 0-1 7/10 and 0-1 2/4 with the word at a place before the end changed, and the right sum.
 fn changed(rt: &impl Print, label: &str, at: usize, word: u32) -> io::Result<()> {
     let mut list = TWICE;
     list[at % 8] = word;
-    list[7] = words::word_of(words::KIND_END, words::end_payload(&list, 7));
+    seal(&mut list);
     convert(rt, label, &list)
 }
 
@@ -42,7 +42,7 @@ fn needy(rt: &impl Print, label: &str, first: u32, second: u32) -> io::Result<()
         0x8000_000A,
         0,
     ];
-    list[9] = words::word_of(words::KIND_END, words::end_payload(&list, 9));
+    seal(&mut list);
     convert(rt, label, &list)
 }
 

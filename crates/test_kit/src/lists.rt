@@ -1,6 +1,6 @@
 // Lists, by the numbers of their pairs and the needs of their registers.
 use crate::largest;
-use crate::places::front;
+use crate::places::{front, holds};
 use refusals::Refused;
 use words::WordKind;
 
@@ -48,6 +48,13 @@ impl<'a> List<'a> {
         self.needs.get(register as usize).copied().unwrap_or([0, 0])
     }
 
+    // Whether a buffer holds the numbers of the pairs, then the needs, and is kept behind them.
+    pub fn is_read_into(self, buffer: &[u32]) -> bool {
+        buffer
+            .strip_prefix(self.pairs.as_flattened())
+            .is_some_and(|behind| holds(behind, self.needs.as_flattened()))
+    }
+
     // What the writer says of the list.
     pub fn write_to(self, words: &mut [u32]) -> Result<usize, Refused> {
         write_list::write(
@@ -86,6 +93,35 @@ pub fn needless(n: usize, pairs: &[Pair]) -> List<'_> {
     List {
         pairs,
         needs: front(&FREE, n),
+    }
+}
+
+// Up to M pairs, in the order in which they came.
+#[derive(Clone, Copy)]
+pub struct Pairs<const M: usize> {
+    places: [Pair; M],
+    count: usize,
+}
+
+impl<const M: usize> Pairs<M> {
+    pub fn none() -> Pairs<M> {
+        Pairs {
+            places: [[0; 4]; M],
+            count: 0,
+        }
+    }
+
+    // One pair more, if there is a place.
+    pub fn push(&mut self, p: Pair) {
+        let k = self.count;
+        if k < M {
+            self.places[k] = p;
+            self.count = k + 1;
+        }
+    }
+
+    pub fn all(&self) -> &[Pair] {
+        front(&self.places, self.count)
     }
 }
 

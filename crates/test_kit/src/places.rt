@@ -12,6 +12,11 @@ pub fn kept(buffer: &[u32], from: usize) -> bool {
     buffer.iter().skip(from).all(|x| *x == DIRT)
 }
 
+// Whether a buffer holds these and is kept behind them.
+pub fn holds(buffer: &[u32], expected: &[u32]) -> bool {
+    buffer.starts_with(expected) && kept(buffer, expected.len())
+}
+
 // Whether a scratch is zero in its first `count` places, and kept behind.
 pub fn cleared(scratch: &[u32], count: usize) -> bool {
     scratch.get(..count).is_some_and(zero) && kept(scratch, count)

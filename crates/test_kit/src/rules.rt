@@ -35,9 +35,8 @@ impl<'a> List<'a> {
 
     // Whether a schedule breaks no rule at a period.
     pub fn admits(self, period: u32, s: &[u32]) -> bool {
-        self.pairs
-            .iter()
-            .all(|p| self.setup_margin(*p, period, s) >= 0 && self.hold_margin(*p, s) >= 0)
+        self.pairs.iter().all(|p| self.setup_margin(*p, period, s) >= 0
+            && self.hold_margin(*p, s) >= 0)
     }
 
     // The places of scratch that a split or a plan takes.

@@ -1,4 +1,6 @@
 // A tally of what came of many runs.
+ghost use Rattle.std.specs.Prelude.{◌≤◌};
+
 use crate::lists::List;
 use crate::random;
 use std::io;
@@ -86,15 +88,17 @@ pub fn many_lists<const N: usize, const M: usize, F: Fn(List<'_>, &[u32]) -> Fat
     need: u32,
     judge: F,
 ) -> Tally
-    requires { F.IsAlwaysCallable judge }
+    requires size { (N ≤ 64) × (M ≤ 64) }
+    requires callable { F.IsAlwaysCallable judge }
 {
-    many(seed, lists, |seed| {
+    let mut tally = Tally::none();
+    let mut next = seed;
+    for _ in 0..lists {
         let mut words = [0u32; WORDS];
-        let d = random::list::<N, M>(seed, N as u32, delay, need);
+        let d = random::list::<N, M>(next, N as u32, delay, need);
         let list = d.list();
-        Turn {
-            seed: d.seed,
-            fate: judge(list, list.write(&mut words)),
-        }
-    })
+        tally = tally.with(judge(list, list.write(&mut words)));
+        next = d.seed;
+    }
+    tally
 }

@@ -31,7 +31,12 @@ fn main(rt: HostRuntime) -> io::Result<()> {
     trips::small(&rt, "two words changed, the sum kept: ", Damage::Two, 0)?;
     trips::small(&rt, "random lists with needs: ", Damage::None, MAX_NEED)?;
     trips::small(&rt, "one word changed: ", Damage::One, MAX_NEED)?;
-    trips::small(&rt, "two words changed, the sum kept: ", Damage::Two, MAX_NEED)?;
+    trips::small(
+        &rt,
+        "two words changed, the sum kept: ",
+        Damage::Two,
+        MAX_NEED,
+    )?;
     trips::largest(&rt, "512 registers, 2048 pairs, words there and back: ", 0)?;
     trips::largest(&rt, "the same with needs: ", MAX_NEED)
 }

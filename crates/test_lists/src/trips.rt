@@ -20,15 +20,6 @@ const DELAY: u32 = timing::MAX_DELAY - timing::MAX_NEED;
 // How many random lists there are.
 const LISTS: u32 = 2_000;
 
-// Whether a buffer holds the numbers of the pairs, then the needs, and is kept behind them.
-fn holds(buffer: &[u32], list: List<'_>) -> bool {
-    let numbers = list.pairs.as_flattened();
-    let needs = list.needs.as_flattened();
-    buffer.strip_prefix(numbers).is_some_and(|behind| {
-        behind.starts_with(needs) && kept(behind, needs.len())
-    })
-}
-
 // Writes a list and reads it back: the same, and later places kept. The answer is the count of words, none if anything is wrong.
 fn there_and_back(list: List<'_>, words: &mut [u32], back: &mut [u32]) -> Option<usize> {
     words.fill(DIRT);
@@ -38,7 +29,7 @@ fn there_and_back(list: List<'_>, words: &mut [u32], back: &mut [u32]) -> Option
     let counts = read_list::read(front(words, count), back).ok()?;
     let right = counts.registers == n
         && counts.pairs as usize == list.pairs.len()
-        && holds(back, list)
+        && list.is_read_into(back)
         && kept(words, count);
     right.then_some(count)
 }
@@ -75,7 +66,11 @@ impl Damage {
 
     // What is added to another word, after one got this: as much as brings the sum back.
     fn down(self, by: u32) -> u32 {
-        if self == Damage::Two { by.wrapping_neg() } else { 0 }
+        if self == Damage::Two {
+            by.wrapping_neg()
+        } else {
+            0
+        }
     }
 
     fn bring(self, seed: u64, words: &mut [u32]) {
@@ -119,7 +114,10 @@ fn fate(damage: Damage, seed: u64, list: List<'_>) -> Fate {
 // Random lists with needs up to `most`, and how they fared.
 pub fn small(rt: &impl Print, label: &str, damage: Damage, most: u32) -> io::Result<()> {
     let t = many(1, LISTS, |seed| one(damage, most, seed));
-    println!(rt; "{label}{} refused, {} the same when written again, {} wrong", t.void, t.right, t.wrong)
+    println!(rt;
+        "{label}{} refused, {} the same when written again, {} wrong",
+        t.void, t.right, t.wrong
+    )
 }
 
 // A list of the largest size with needs up to `most` there and back, and then with one place too few.

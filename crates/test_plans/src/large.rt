@@ -9,7 +9,10 @@ use test_kit::{random, show};
 fn show_plan(rt: &impl Print, r: Result<Planned, Refused>) -> io::Result<()> {
     match r {
         Err(refused) => show::refusal(rt, refused),
-        Ok(p) => println!(rt; "common {} free {} two {} offset {}", p.common, p.free, p.two, p.offset),
+        Ok(p) => println!(rt;
+            "common {} free {} two {} offset {}",
+            p.common, p.free, p.two, p.offset
+        ),
     }
 }
 

@@ -1,8 +1,9 @@
 // Worked examples: lists that are pooled.
-use crate::show::{into, plan, pool};
+use crate::show::{into, pool};
 use std::io;
-use test_kit::lists::needy;
+use test_kit::lists::{Needs, P, P_NEEDS, Pair, needy};
 use test_kit::places::front;
+use test_pairs::show::plan;
 
 // The words of 0-1 7/10 and 1-0 1/3, and those of 0-1 8/12 and 1-1 2/5.
 pub const COLD: [u32; 8] = [
@@ -27,20 +28,19 @@ pub const HOT: [u32; 8] = [
     0xE000_241F,
 ];
 
-// Two lists of n registers with these pairs and the same needs, written and then pooled.
-fn lists<'a>(
+// Two lists with the same needs, written and then pooled.
+fn lists(
     rt: &impl Print,
     label: &str,
-    n: u32,
-    first: &'a [u32],
-    second: &'a [u32],
-    needs: &[u32],
+    first: &[Pair],
+    second: &[Pair],
+    needs: &[Needs],
 ) -> io::Result<()> {
     let mut a = [0u32; 32];
     let mut b = [0u32; 32];
-    let x = needy(n, first, needs, &mut a);
-    let y = needy(n, second, needs, &mut b);
-    pool(rt, label, front(&a, x), front(&b, y))
+    let one = needy(first, needs).write(&mut a);
+    let other = needy(second, needs).write(&mut b);
+    pool(rt, label, one, other)
 }
 
 pub fn pooled(rt: &impl Print) -> io::Result<()> {
@@ -57,31 +57,16 @@ pub fn pooled(rt: &impl Print) -> io::Result<()> {
     plan(rt, "plan of the pooled list: ", front(&answer, 11))?;
     pool(rt, "the other way round: ", &HOT, &COLD)?;
     pool(rt, "the first with itself: ", &COLD, &COLD)?;
-    let none = [0u32, 0, 0, 0, 0, 0];
-    let wide = [0u32, 1, 7, 10];
-    let inner = [0u32, 1, 8, 9];
-    lists(
-        rt,
-        "0-1 7/10 with 0-1 8/9: ",
-        2,
-        &wide,
-        &inner,
-        front(&none, 4),
-    )?;
-    lists(
-        rt,
-        "0-1 8/9 with 0-1 7/10: ",
-        2,
-        &inner,
-        &wide,
-        front(&none, 4),
-    )?;
-    let own = [0u32, 0, 1, 2, 2, 2, 3, 4];
-    let cross = [0u32, 2, 5, 6, 2, 0, 7, 8];
+    let none = [[0, 0]; 3];
+    let wide = [[0, 1, 7, 10]];
+    let inner = [[0, 1, 8, 9]];
+    lists(rt, "0-1 7/10 with 0-1 8/9: ", &wide, &inner, &none[..2])?;
+    lists(rt, "0-1 8/9 with 0-1 7/10: ", &inner, &wide, &none[..2])?;
+    let own = [[0, 0, 1, 2], [2, 2, 3, 4]];
+    let cross = [[0, 2, 5, 6], [2, 0, 7, 8]];
     lists(
         rt,
         "0-0 1/2, 2-2 3/4 with 0-2 5/6, 2-0 7/8: ",
-        3,
         &own,
         &cross,
         &none,
@@ -90,12 +75,10 @@ pub fn pooled(rt: &impl Print) -> io::Result<()> {
 
 // The needs of both are the same: hold 1 and setup 2 of register 0, hold 2 and setup 1 of register 1.
 pub fn needs(rt: &impl Print) -> io::Result<()> {
-    let needs = [1u32, 2, 2, 1];
-    let cold = [0u32, 1, 7, 10, 1, 0, 1, 3];
-    let hot = [0u32, 1, 8, 12];
-    lists(rt, "with needs: ", 2, &cold, &hot, &needs)?;
-    lists(rt, "the other way round: ", 2, &hot, &cold, &needs)?;
-    lists(rt, "with no pairs: ", 2, &cold, &[], &needs)
+    let hot = [[0, 1, 8, 12]];
+    lists(rt, "with needs: ", &P, &hot, &P_NEEDS)?;
+    lists(rt, "the other way round: ", &hot, &P, &P_NEEDS)?;
+    lists(rt, "with no pairs: ", &P, &[], &P_NEEDS)
 }
 
 pub fn without_pairs(rt: &impl Print) -> io::Result<()> {

@@ -10,11 +10,8 @@ mod jobs;
 mod large;
 mod merges;
 mod others;
-mod plain;
 mod refused;
-mod runs;
 mod schedules;
-mod searches;
 mod show;
 
 use std::io;

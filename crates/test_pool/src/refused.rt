@@ -1,31 +1,29 @@
 // Worked examples: lists that are refused, each as the first list and as the second. The buffer is kept.
 use crate::examples::{COLD, HOT};
 use crate::show;
-use pooling::Pooling;
 use std::io;
-use test_kit::lists::TWICE;
+use test_kit::lists::{TWICE, seal};
 use test_kit::places::{DIRT, kept};
-use test_kit::show::text;
 
 // Pools two lists that are refused into a buffer that is dirty.
 fn refused<'a>(rt: &impl Print, first: &'a [u32], second: &'a [u32]) -> io::Result<()> {
     let mut answer = [DIRT; 14];
     match pooling::pool(first, second, &mut answer) {
-        Pooling::Pooled(_) => text(rt, "pooled\n"),
-        Pooling::Refused(list, code, place) => {
+        Ok(_) => rt.println("pooled"),
+        Err(refused) => {
             if !kept(&answer, 0) {
-                text(rt, "changed, ")?;
+                rt.print("changed, ")?;
             }
-            show::refusal(rt, list, code, place)
+            show::refusal(rt, refused)
         }
     }
 }
 
 // A list with the other one, as the first and as the second.
 fn with_cold(rt: &impl Print, label: &str, list: &[u32]) -> io::Result<()> {
-    text(rt, label)?;
+    rt.print(label)?;
     refused(rt, list, &COLD)?;
-    text(rt, label)?;
+    rt.print(label)?;
     refused(rt, &COLD, list)
 }
 
@@ -33,7 +31,7 @@ fn with_cold(rt: &impl Print, label: &str, list: &[u32]) -> io::Result<()> {
 fn changed(rt: &impl Print, label: &str, at: usize, word: u32) -> io::Result<()> {
     let mut list = COLD;
     list[at % 8] = word;
-    list[7] = words::word_of(words::KIND_END, words::end_payload(&list, 7));
+    seal(&mut list);
     with_cold(rt, label, &list)
 }
 
@@ -68,7 +66,7 @@ fn needy(rt: &impl Print, label: &str, first: u32, second: u32) -> io::Result<()
         0x8000_0003,
         0,
     ];
-    list[9] = words::word_of(words::KIND_END, words::end_payload(&list, 9));
+    seal(&mut list);
     with_cold(rt, label, &list)
 }
 
@@ -108,11 +106,11 @@ pub fn first(rt: &impl Print) -> io::Result<()> {
     let mut sum = COLD;
     sum[7] = 0xE000_2419;
     let three = [0x2000_3000u32, 0xE000_3000];
-    text(rt, "both lists wrong: ")?;
+    rt.print("both lists wrong: ")?;
     refused(rt, &sum, &TWICE)?;
-    text(rt, "the other way round: ")?;
+    rt.print("the other way round: ")?;
     refused(rt, &TWICE, &sum)?;
-    text(rt, "three registers and a wrong sum: ")?;
+    rt.print("three registers and a wrong sum: ")?;
     refused(rt, &three, &sum)?;
     show::into(rt, "a wrong sum, no place: ", &COLD, &sum, &mut [])?;
     show::into(rt, "three registers, no place: ", &three, &HOT, &mut [])?;

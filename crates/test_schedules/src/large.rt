@@ -54,10 +54,7 @@ fn needy_free(rt: &impl Print, label: &str, shape: Shape, needs: Needs) -> io::R
         needs: &[needs; RING],
     };
     rt.print(label)?;
-    show_free(
-        rt,
-        free_schedule::free(list.write(&mut words), &mut answer),
-    )?;
+    show_free(rt, free_schedule::free(list.write(&mut words), &mut answer))?;
     show::numbers(rt, &[answer[0], answer[1], answer[RING - 1]])
 }
 
@@ -86,7 +83,8 @@ pub fn chains(rt: &impl Print) -> io::Result<()> {
     free(
         rt,
         "chain of 512, 1000000/1000000: ",
-        chain(false, MAX_DELAY, MAX_DELAY))
+        chain(false, MAX_DELAY, MAX_DELAY),
+    )
 }
 
 pub fn rings(rt: &impl Print) -> io::Result<()> {
@@ -95,7 +93,8 @@ pub fn rings(rt: &impl Print) -> io::Result<()> {
     free(
         rt,
         "ring of 512, 1000000/1000000: ",
-        ring(false, MAX_DELAY, MAX_DELAY))
+        ring(false, MAX_DELAY, MAX_DELAY),
+    )
 }
 
 // The longest chain and the longest ring with the largest needs.
@@ -103,13 +102,19 @@ pub fn needy(rt: &impl Print) -> io::Result<()> {
     needy_free(
         rt,
         "chain of 512, 1000000/1000000, setup 9999: ",
-        chain(false, MAX_DELAY, MAX_DELAY), [0, MAX_NEED])?;
+        chain(false, MAX_DELAY, MAX_DELAY),
+        [0, MAX_NEED],
+    )?;
     needy_free(
         rt,
         "the same against the list, hold 9999 too: ",
-        chain(true, MAX_DELAY, MAX_DELAY), [MAX_NEED, MAX_NEED])?;
+        chain(true, MAX_DELAY, MAX_DELAY),
+        [MAX_NEED, MAX_NEED],
+    )?;
     needy_free(
         rt,
         "ring of 512, 9999/1000000, hold and setup 9999: ",
-        ring(false, MAX_NEED, MAX_DELAY), [MAX_NEED, MAX_NEED])
+        ring(false, MAX_NEED, MAX_DELAY),
+        [MAX_NEED, MAX_NEED],
+    )
 }

@@ -50,7 +50,10 @@ fn check_right(list: List<'_>, words: &[u32]) -> Fate {
 }
 
 fn tell(rt: &impl Print, label: &str, t: Tally) -> io::Result<()> {
-    println!(rt; "{label}{} right, {} wrong, {} without a schedule", t.right, t.wrong, t.void)
+    println!(rt;
+        "{label}{} right, {} wrong, {} without a schedule",
+        t.right, t.wrong, t.void
+    )
 }
 
 // Random lists with needs up to `need`, and their free schedules.
@@ -59,7 +62,11 @@ fn free(need: u32) -> Tally {
 }
 
 pub fn free_schedules(rt: &impl Print) -> io::Result<()> {
-    tell(rt, "free schedules of random lists against a search: ", free(0))?;
+    tell(
+        rt,
+        "free schedules of random lists against a search: ",
+        free(0),
+    )?;
     tell(rt, "the same with needs: ", free(NEED))
 }
 

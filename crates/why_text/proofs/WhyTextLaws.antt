@@ -16,12 +16,13 @@ use Rattle.list_format.proofs.ListLaws.{numbers-in, list-usable}
 use Rattle.free_laws.specs.Free.{common}
 use Rattle.plan_laws.specs.Plan.{two_works}
 use Rattle.chain_laws.specs.Chains.{Chains}
-use Rattle.blocking.specs.Blocking.{why_call_checks, why_checks, why_outcome, why_not, why_reply, WorkingAt, BlockedBy, WhyAs}
-use Rattle.blocking.specs.declared.Reason.{Reason}
-use Rattle.blocking.specs.declared.Reason.TheVariants.{Workable, Blocked, Refused}
+use Rattle.blocking.specs.Blocking.{Reason, why_call_checks, why_checks, why_outcome, why_not, why_reply, WorkingAt, BlockedBy, WhyAs}
+use Rattle.std.specs.Prelude.{None, Some, Ok, Err}
+use Rattle.refusals.specs.Checks.{number_of}
+use Rattle.refusals.specs.declared.Refused.{Refused}
+use Rattle.blocking.specs.declared.Blocked.{Blocked}
 use Rattle.text_pieces.specs.Pieces.{Put, letters}
-use Rattle.text_pieces.specs.Saying.{Saying, text as say_text, trouble as say_trouble, bytes_of}
-use Rattle.text_pieces.specs.declared.Said.TheVariants.{Text, Trouble}
+use Rattle.text_pieces.specs.Saying.{Saying, text as say_text, trouble as say_trouble, trouble_of, bytes_of}
 use Rattle.text_pieces.proofs.SaidLaws.{said-text, said-trouble}
 use Rattle.refusal_text.specs.RefusalText.{line_width, caused_line}
 use Rattle.why_text.specs.WhyText.{step_places, why_places, chains_in, ShownIn, blocked_text, workable_said, blocked_said, why_said}
@@ -55,7 +56,7 @@ module _ {ws now scratch' : List ℕ} {t : ℕ} {r : Reason} (a : WhyAs ws t (ze
 
   -- ---- the text of each answer
 
-  said-refused : {number place : ℕ} → r ≡ Refused number place → why_text ws t a.chains ≡ why_refused number place
+  said-refused : {why : Refused} → r ≡ Err why → why_text ws t a.chains ≡ why_refused (number_of why.refusal) why.place
   unfolding why_text why_reply
   said-refused e = told-refusal why_refused (why_said ws t a.chains) (why_of ws t a.chains) (rw e at why-reply)
 
@@ -63,44 +64,44 @@ module _ {ws now scratch' : List ℕ} {t : ℕ} {r : Reason} (a : WhyAs ws t (ze
   unfolding why_text
   said-numbers e = told-numbers why_refused (why_said ws t a.chains) [] (λ xs ys. refl) (why_of ws t a.chains) (e ∙ why-reply)
 
-  said-workable : r ≡ Workable → why_text ws t a.chains ≡ workable_said
+  said-workable : r ≡ Ok None → why_text ws t a.chains ≡ workable_said
   unfolding why_reply
   said-workable e = said-numbers {xs = 0 ∷ []} (rw e)
 
-  said-blocked : {register first second : ℕ} → r ≡ Blocked register first second → why_text ws t a.chains ≡ blocked_said ws t a.chains
+  said-blocked : {b : Blocked} → r ≡ Ok (Some b) → why_text ws t a.chains ≡ blocked_said ws t a.chains
   unfolding why_reply
-  said-blocked {register} {first} {second} e = said-numbers {xs = 1 ∷ register ∷ first ∷ second ∷ []} (rw e)
+  said-blocked {b} e = said-numbers {xs = 1 ∷ b.register ∷ b.first ∷ b.second ∷ []} (rw e)
 
   -- ---- what is said is true
 
   is-workable : (q : Reason) → r ≡ q → why_text ws t a.chains ≡ workable_said → WorkingAt ws t
   unfolding blocked_text bytes_of
-  is-workable Workable e said = a.workable e
-  is-workable (Blocked register first second) e said =
+  is-workable (Ok None) e said = a.workable e
+  is-workable (Ok (Some b)) e said =
       let z : ◌≡◌ {A = ℕ} 98 119 = ap (λ (p : Saying). get_or (bytes_of p) 0 0) (sym (said-blocked e) ∙ said) in
       absurd (omega arith)
-  is-workable (Refused number place) e said =
+  is-workable (Err why) e said =
       let z : ◌≡◌ {A = ℕ} 0 1 = ap is_text (sym (said-refused e) ∙ said) in
       absurd (omega arith)
 
   is-blocked : (q : Reason) → r ≡ q → why_text ws t a.chains ≡ blocked_said ws t a.chains
       → BlockedBy ws t a.chains a.chains.register (length a.chains.first) (length a.chains.second)
   unfolding blocked_text bytes_of
-  is-blocked Workable e said =
+  is-blocked (Ok None) e said =
       let z : ◌≡◌ {A = ℕ} 119 98 = ap (λ (p : Saying). get_or (bytes_of p) 0 0) (sym (said-workable e) ∙ said) in
       absurd (omega arith)
-  is-blocked (Blocked register first second) e said =
-      let b = a.blocked register first second e in
+  is-blocked (Ok (Some found)) e said =
+      let b = a.blocked found.register found.first found.second e in
       record { register_is = refl; first_is = refl; second_is = refl; sound = b.sound; none = b.none }
-  is-blocked (Refused number place) e said =
+  is-blocked (Err why) e said =
       let z : ◌≡◌ {A = ℕ} 0 1 = ap is_text (sym (said-refused e) ∙ said) in
       absurd (omega arith)
 
   -- ---- what is stored
 
-  pub why-refused : {number place next : ℕ} {text text' : List ℕ} → r ≡ Refused number place
-      → Put line_width (caused_line number place (why_cause number)) text 0 text' next
-      → WhySaidAs ws t text text' (Trouble next)
+  pub why-refused : {why : Refused} {next : ℕ} {text text' : List ℕ} → r ≡ Err why
+      → Put line_width (caused_line (number_of why.refusal) why.place (why_cause (number_of why.refusal))) text 0 text' next
+      → WhySaidAs ws t text text' (Err (trouble_of next))
   why-refused e put =
       record {
         chains = a.chains;
@@ -109,8 +110,8 @@ module _ {ws now scratch' : List ℕ} {t : ℕ} {r : Reason} (a : WhyAs ws t (ze
         blocked = is-blocked r refl;
       }
 
-  pub why-workable : {next : ℕ} {text text' : List ℕ} → r ≡ Workable → Put 9 (letters "workable\n") text 0 text' next
-      → WhySaidAs ws t text text' (Text next)
+  pub why-workable : {next : ℕ} {text text' : List ℕ} → r ≡ Ok None → Put 9 (letters "workable\n") text 0 text' next
+      → WhySaidAs ws t text text' (Ok next)
   why-workable e put =
       record {
         chains = a.chains;
@@ -119,8 +120,8 @@ module _ {ws now scratch' : List ℕ} {t : ℕ} {r : Reason} (a : WhyAs ws t (ze
         blocked = is-blocked r refl;
       }
 
-  module _ {register first second : ℕ} (e : r ≡ Blocked register first second) where
-    told : numbers (1 ∷ register ∷ first ∷ second ∷ []) ≡ reply_of (why_of ws t a.chains)
+  module _ {found : Blocked} (e : r ≡ Ok (Some found)) where
+    told : numbers (1 ∷ found.register ∷ found.first ∷ found.second ∷ []) ≡ reply_of (why_of ws t a.chains)
     unfolding why_reply
     told = rw e at why-reply
 
@@ -137,28 +138,28 @@ module _ {ws now scratch' : List ℕ} {t : ℕ} {r : Reason} (a : WhyAs ws t (ze
         why-stored ∙ ap (λ (o : Outcome). buffer_after o (zeros step_places)) is ∙ shown_by works x (zeros step_places) (told ∙ ap reply_of is)
 
     -- the chains as they stand in the buffer
-    same : chains_in register first second now ≡ a.chains
+    same : chains_in found.register found.first found.second now ≡ a.chains
     same =
-        let b = a.blocked register first second e in
+        let b = a.blocked found.register found.first found.second e in
         let x = a.chains in
         let rest = drop (length (x.first ++ x.second)) (zeros step_places) in
         let all : now ≡ x.first ++ (x.second ++ rest) = stored ∙ append_assoc x.first x.second rest in
-        let front : take first now ≡ x.first = rw all (take_at x.first (x.second ++ rest) first (sym b.first_is)) in
-        let later : drop first now ≡ x.second ++ rest = rw all (drop_at x.first (x.second ++ rest) first (sym b.first_is)) in
-        let back : take second (drop first now) ≡ x.second = rw later (take_at x.second rest second (sym b.second_is)) in
+        let front : take found.first now ≡ x.first = rw all (take_at x.first (x.second ++ rest) found.first (sym b.first_is)) in
+        let later : drop found.first now ≡ x.second ++ rest = rw all (drop_at x.first (x.second ++ rest) found.first (sym b.first_is)) in
+        let back : take found.second (drop found.first now) ≡ x.second = rw later (take_at x.second rest found.second (sym b.second_is)) in
         rw (b.register_is, front, back)
 
-    pub blocked-shown : ShownIn ws (chains_in register first second now)
-    blocked-shown = rw same (shown-in ws t _ a.chains usable (a.blocked register first second e).sound)
+    pub blocked-shown : ShownIn ws (chains_in found.register found.first found.second now)
+    blocked-shown = rw same (shown-in ws t _ a.chains usable (a.blocked found.register found.first found.second e).sound)
 
-    pub blocked-fits : first + second ≤ step_places
+    pub blocked-fits : found.first + found.second ≤ step_places
     blocked-fits =
-        let b = a.blocked register first second e in
+        let b = a.blocked found.register found.first found.second e in
         omega (arith, b.first_is, b.second_is, (shown-in ws t _ a.chains usable b.sound).few)
 
     pub why-blocked : {next : ℕ} {text text' : List ℕ}
-        → Put why_places (blocked_text t (common (pairs ws) - t) (pairs ws) (chains_in register first second now)) text 0 text' next
-        → WhySaidAs ws t text text' (Text next)
+        → Put why_places (blocked_text t (common (pairs ws) - t) (pairs ws) (chains_in found.register found.first found.second now)) text 0 text' next
+        → WhySaidAs ws t text text' (Ok next)
     why-blocked put =
         record {
           chains = a.chains;

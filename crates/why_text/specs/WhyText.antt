@@ -11,8 +11,7 @@ use Rattle.split_laws.specs.Split.{time_of}
 use Rattle.chain_laws.specs.Chains.{index_of, step_pair, launch_late, capture_late, Chains}
 use Rattle.blocking.specs.Blocking.{per_chain, why_not, WorkingAt, BlockedBy}
 use Rattle.text_pieces.specs.Pieces.{letters, named, space}
-use Rattle.text_pieces.specs.Saying.{Saying, text, trouble, SaidAs}
-use Rattle.text_pieces.specs.declared.Said.{Said}
+use Rattle.text_pieces.specs.Saying.{Saying, Said, text, trouble, SaidAs}
 use Rattle.refusal_text.specs.RefusalText.{colon, caused_line}
 
 -- ---- how long a text can be

@@ -12,14 +12,17 @@ ghost use Rattle.split_laws.specs.Split.{time_of};
 ghost use Rattle.split_laws.specs.Choices.{is_late, row_launch, row_capture};
 ghost use Rattle.chain_laws.specs.Chains.{row_of, index_of};
 ghost use Rattle.text_pieces.specs.Pieces.{Put, named, number_width};
-ghost use Rattle.refusal_text.specs.RefusalText.{line_width, caused_line};
+ghost use Rattle.refusals.specs.Checks.{number_of};
+ghost use Rattle.refusal_text.specs.RefusalText.{line_width, cause_number, caused_line};
 ghost use Rattle.why_text.specs.WhyText.{short_width, choice_width, rule_width, choices_width, step_width, register_width, way_width, why_places};
 ghost use Rattle.why_text.specs.WhyText.{choice_words, end_words, rule_words, choices_words, step_line, StepsIn, chain_lines, way_words, chain_text};
 ghost use Rattle.why_text.specs.WhyText.{chains_in, ShownIn, register_line, blocked_text, why_cause, WhySaidAs};
 
-use blocking::Reason;
+use blocking::Blocked;
 use list_bytes::MAX_WORDS;
-use text_pieces::{Said, put_bytes, put_named};
+use refusal_text::Cause;
+use refusals::{Refusal, Refused};
+use text_pieces::{Trouble, put_bytes, put_named};
 use timing::{MAX_REGISTERS, MAX_SCRATCH, PER_PAIR, Pair};
 
 // A step is this many times the index of its pair, plus the row of its choice.
@@ -155,10 +158,8 @@ fn put_steps(
         text.old at text.new result }
 {
     let mut last = at;
-    let mut i = 0;
-    while i < steps.len() {
-        last = put_step(text, last, words, period, offset, steps[i]);
-        i += 1;
+    for step in steps {
+        last = put_step(text, last, words, period, offset, *step);
     }
     last
 }
@@ -210,7 +211,7 @@ fn offset_at(words: &[u32], period: u32) -> u32
     ensures { result ≡ common (pairs words.now) - period }
 {
     let m = words::head_pairs(words[0]) as usize;
-    timing::less(free_climb::common(words, m), period)
+    free_climb::common(words, m).saturating_sub(period)
 }
 
 // The register and the two chains at it, whose steps stand one after the other.
@@ -218,76 +219,67 @@ fn put_blocked(
     text: &mut [u8],
     words: &[u32],
     period: u32,
-    register: u32,
-    first: usize,
-    second: usize,
+    blocked: Blocked,
     steps: &[u32],
 ) -> usize
-    requires shown_in { ShownIn words.now (chains_in register first second steps.now) }
-    requires second_in_bounds { first + second ≤ length steps.now }
+    requires shown_in { ShownIn words.now (chains_in blocked.register blocked.first blocked.second steps.now) }
+    requires second_in_bounds { blocked.first + blocked.second ≤ length steps.now }
     requires why_places_in_bounds { why_places ≤ length text.old }
     ensures { Put why_places
         (blocked_text period (common (pairs words.now) - period) (pairs words.now)
-        (chains_in register first second steps.now))
+        (chains_in blocked.register blocked.first blocked.second steps.now))
         text.old 0 text.new result }
 {
     let offset = offset_at(words, period);
-    let end = first + second;
-    let a = put_register(text, register);
+    let first = blocked.first as usize;
+    let end = first + blocked.second as usize;
+    let a = put_register(text, blocked.register);
     let b = put_chain(text, a, words, period, offset, false, &steps[..first]);
     put_chain(text, b, words, period, offset, true, &steps[first..end])
 }
 
 // What a refusal is caused by.
-fn why_cause(number: u32) -> u32
-    ensures { result ≡ why_cause number }
+#[tactic(auto, unfolding(crate::specs::WhyText::why_cause, refusals::specs::Checks::number_of, refusal_text::specs::RefusalText::cause_number))]
+fn why_cause(refusal: Refusal) -> Cause
+    ensures { cause_number result ≡ why_cause (number_of refusal) }
 {
-    if number == 3 { 31 } else { number }
+    match refusal {
+        Refusal::Call => Cause::Period,
+        _ => Cause::Of(refusal),
+    }
 }
 
 // The line of a refusal, with its cause.
-fn put_refused_why(text: &mut [u8], number: u32, place: usize) -> usize
+fn put_refused_why(text: &mut [u8], refused: Refused) -> usize
     requires { why_places ≤ length text.old }
-    ensures { Put line_width (caused_line number place (why_cause number)) text.old 0 text.new result }
+    ensures { Put line_width (caused_line (number_of refused.refusal) refused.place (why_cause (number_of refused.refusal)))
+        text.old 0 text.new result }
 {
-    let cause = why_cause(number);
-    refusal_text::put_caused(text, number, place, cause)
+    refusal_text::put_caused(text, refused, why_cause(refused.refusal))
 }
 
 // What blocks the period, for a run of words.
-fn put_why(text: &mut [u8], words: &[u32], period: u32) -> Said
+fn put_why(text: &mut [u8], words: &[u32], period: u32) -> Result<usize, Trouble>
     requires { why_places ≤ length text.old }
     ensures { WhySaidAs words.now period text.old text.new result }
 {
     let mut answer = [0u32; STEP_PLACES];
     let mut scratch = [0u32; MAX_SCRATCH];
     match blocking::why_not(words, period, &mut answer, &mut scratch) {
-        Reason::Refused(number, place) => {
-            let size = put_refused_why(text, number, place);
-            Said::Trouble(size)
+        Err(refused) => {
+            let size = put_refused_why(text, refused);
+            Err(Trouble { size })
         }
-        Reason::Workable => {
-            let size = put_bytes(text, 0, b"workable\n");
-            Said::Text(size)
-        }
-        Reason::Blocked(register, first, second) => {
-            let size = put_blocked(
-                text,
-                words,
-                period,
-                register,
-                first as usize,
-                second as usize,
-                &answer,
-            );
-            Said::Text(size)
-        }
+        Ok(found) => match found {
+            None => Ok(put_bytes(text, 0, b"workable\n")),
+            Some(blocked) => Ok(put_blocked(text, words, period, blocked, &answer)),
+        },
     }
 }
 
 // Whether some split works at a period for the list whose bytes are given, with any offset, or what blocks the period, or what is wrong,
 // in the first places of `text`; later places keep their contents.
-pub fn why_text(bytes: &[u8], period: u32, text: &mut [u8; TEXT_PLACES]) -> Said
+pub fn why_text(bytes: &[u8], period: u32, text: &mut [u8; TEXT_PLACES]) -> Result<usize, Trouble>
     ensures { WhySaidAs (list_of bytes.now) period text.old text.new result }
 {
     let mut words = [0u32; MAX_WORDS];

@@ -5,4 +5,4 @@ use Rattle.propagate.proofs.decide.Goals as goal
 pub returns : goal.returns
 returns c =
     let a = c.args in
-    decided a.period a.offset a.words.now a.n a.scratch.now _ c.requires c.prepare.ensures c.propagate.ensures
+    decided a.period a.offset a.list.words.now a.list.registers a.scratch.now _ c.requires c.prepare.ensures c.propagate.ensures

@@ -7,14 +7,14 @@ use Rattle.propagate.proofs.propagate.Goals as goal
 pub returns-in-Settled : goal.returns-in-Settled
 returns-in-Settled c =
     let a = c.args in
-    carried-settled a.words.now a.n c.loop-down.invariant c.sweep.ensures c.in-Settled.is
+    carried-settled a.list.words.now a.list.registers c.loop-down.invariant c.sweep.ensures c.in-Settled.is
 
 pub returns-in-Clash : goal.returns-in-Clash
 returns-in-Clash c =
     let a = c.args in
-    carried-clash a.words.now a.n c.loop-down.invariant c.sweep.ensures c.in-Clash.is
+    carried-clash a.list.words.now a.list.registers c.loop-down.invariant c.sweep.ensures c.in-Clash.is
 
 pub loop-down-preserved : goal.loop-down-preserved
 loop-down-preserved c =
     let a = c.args in
-    carried-turn a.words.now a.n c.loop-down.invariant c.sweep.ensures
+    carried-turn a.list.words.now a.list.registers c.loop-down.invariant c.sweep.ensures

@@ -7,7 +7,7 @@ use Rattle.propagate.specs.Passes.{Carried}
 use Rattle.propagate.proofs.propagate.Given as goal
 
 abbrev pub invariant-loop-down : goal.invariant-loop-down
-invariant-loop-down l = Carried l.words l.n l.initial.scratch l.scratch
+invariant-loop-down l = Carried l.list.words.now l.list.registers l.initial.scratch l.scratch
 
 abbrev pub decreases-loop-down : goal.decreases-loop-down
-decreases-loop-down l = unset (take l.n l.scratch)
+decreases-loop-down l = unset (take l.list.registers l.scratch)

@@ -13,5 +13,5 @@ loop-k-init c = filling-start (filled_none _)
 pub loop-k-preserved : goal.loop-k-preserved
 loop-k-preserved c =
     let l = c.loop-k in
-    filling-turn per_pair (λ k. refl) (omega (arith, c.requires.1)) l.invariant c.loop-k-test.true (per_pair * l.k) (omega arith)
-    (rw c.pair_at-pair.ensures.same at c.record_pair.ensures)
+    filling-turn per_pair (λ k. refl) (omega (arith, c.requires)) l.invariant c.loop-k-test.true (per_pair * l.k) (omega arith)
+    (rw c.pair.ensures.same at c.record_pair.ensures)

@@ -7,4 +7,4 @@ use Rattle.propagate.specs.Store.{flags_of}
 use Rattle.propagate.proofs.record_broken.Given as goal
 
 abbrev pub invariant-loop-k : goal.invariant-loop-k
-invariant-loop-k l = Filling [] (λ k. flags_of l.period l.offset (pair_at l.words k)) l.m l.initial.flags l.flags l.k
+invariant-loop-k l = Filling [] (λ k. flags_of l.period l.offset (pair_at l.list.words.now k)) l.list.pairs l.initial.flags l.flags l.k

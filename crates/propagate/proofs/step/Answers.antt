@@ -7,8 +7,8 @@ use Rattle.propagate.proofs.step.Goals as goal
 pub returns : goal.returns
 returns c =
     let a = c.args in
-    pair-pass a.words.now a.n a.scratch.now a.k (omega (arith, c.requires.0.room)) (omega (arith, c.requires.0.list.pairs_are))
-    c.pair_at-pair.ensures.same
+    pair-pass a.list.words.now a.list.registers a.scratch.now a.k (omega (arith, c.requires.0.room)) (omega (arith, a.list.usable.pairs_are))
+    c.pair.ensures.same
     c.flags_at-flags.ensures
     refl
     c.settle.ensures

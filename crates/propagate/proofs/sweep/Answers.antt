@@ -12,11 +12,11 @@ loop-i-preserved c =
     let a = c.args in
     let at = rw c.requires.list.pairs_are at c.place.ensures.0 in
     let all = c.max-all.ensures ∙ max-joined c.loop-i.all c.step-o.result in
-    sweep-turn a.words.now a.n a.down c.loop-i.i at all c.loop-i.invariant c.step-o.ensures
+    sweep-turn a.list.words.now a.list.registers a.down c.loop-i.i at all c.loop-i.invariant c.step-o.ensures
 
 pub returns : goal.returns
 returns c =
     let l = c.loop-i in
     let a = c.args in
-    let e : l.i ≡ pair_count a.words.now = omega (arith, c.requires.list.pairs_are) in
-    sweep-end a.words.now a.n a.down (rw e at l.invariant)
+    let e : l.i ≡ pair_count a.list.words.now = omega (arith, c.requires.list.pairs_are) in
+    sweep-end a.list.words.now a.list.registers a.down (rw e at l.invariant)

@@ -5,4 +5,4 @@ use Rattle.propagate.proofs.PassLaws.{MarksClosedTo}
 use Rattle.propagate.proofs.sweep.Given as goal
 
 abbrev pub invariant-loop-i : goal.invariant-loop-i
-invariant-loop-i l = Pass l.words l.n (MarksClosedTo l.words l.down l.i) l.initial.scratch l.scratch l.all
+invariant-loop-i l = Pass l.list.words.now l.list.registers (MarksClosedTo l.list.words.now l.down l.i) l.initial.scratch l.scratch l.all

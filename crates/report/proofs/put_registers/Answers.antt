@@ -1,5 +1,5 @@
 -- `put_registers`: a line for each register.
--- Invariant `Listing`: the lines of the first r registers are stored. What falls: n - r.
+-- Invariant `Listing`: the lines of the first r registers are stored.
 use native.Mathlib.Omega.{arith}
 use Rattle.text_pieces.proofs.PutLaws.{listing_start, listing-turn, listing-end}
 use Rattle.report.specs.Report.{register_lines}

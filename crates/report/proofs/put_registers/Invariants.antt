@@ -1,5 +1,5 @@
 -- `put_registers`: a line for each register.
--- Invariant `Listing`: the lines of the first r registers are stored. What falls: n - r.
+-- Invariant `Listing`: the lines of the first r registers are stored.
 use Prim.Native.Nat.{◌-◌}
 use Rattle.text_pieces.proofs.PutLaws.{Listing}
 use Rattle.report.specs.Report.{register_width, plan_line}
@@ -7,6 +7,3 @@ use Rattle.report.proofs.put_registers.Given as goal
 
 abbrev pub invariant-loop-r : goal.invariant-loop-r
 invariant-loop-r l = Listing register_width (plan_line l.n l.answer) l.n l.initial.text l.at l.text l.last l.r
-
-abbrev pub decreases-loop-r : goal.decreases-loop-r
-decreases-loop-r l = l.n - l.r

@@ -9,21 +9,21 @@ use Rattle.report.proofs.put_text.Goals as goal
 
 pub bounds-words-0 : goal.bounds-words-0
 bounds-words-0 c =
-    let head = planned-in c.plan.ensures c.in-Planned.is in
+    let head = planned-in c.plan.ensures c.in-Ok.is in
     omega (arith, head.size)
 
 pub put_planned-requires : goal.put_planned-requires
 put_planned-requires c =
-    let head = planned-in c.plan.ensures c.in-Planned.is in
+    let head = planned-in c.plan.ensures c.in-Ok.is in
     let n = c.head_registers-n.ensures in
     let size : length c.plan.new.answer ≡ 2 * max_registers = c.plan.auto.answer in
     (omega (arith, head.most, n), omega (arith, head.most, n))
 
-pub returns-in-Refused : goal.returns-in-Refused
-returns-in-Refused c =
-    text-refused c.plan.ensures c.in-Refused.is c.put_refused.ensures
+pub returns-in-Err : goal.returns-in-Err
+returns-in-Err c =
+    text-refused c.plan.ensures c.in-Err.is (rw c.number.ensures at c.put_refused.ensures)
 
-pub returns-in-Planned : goal.returns-in-Planned
-returns-in-Planned c =
-    text-planned c.plan.ensures c.in-Planned.is c.head_registers-n.ensures
+pub returns-in-Ok : goal.returns-in-Ok
+returns-in-Ok c =
+    text-planned c.plan.ensures c.in-Ok.is c.head_registers-n.ensures
     c.put_planned.ensures

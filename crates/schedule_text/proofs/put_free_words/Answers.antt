@@ -8,19 +8,19 @@ use Rattle.schedule_text.proofs.put_free_words.Goals as goal
 
 pub bounds-words-0 : goal.bounds-words-0
 bounds-words-0 c =
-    omega (arith, (free_in c.free.ensures c.in-Periods.is).size)
+    omega (arith, (free_in c.free.ensures c.in-Ok.is).size)
 
-pub put_free-size-requires : goal.put_free-size-requires
-put_free-size-requires c =
-    let head = free_in c.free.ensures c.in-Periods.is in
+pub put_free-requires : goal.put_free-requires
+put_free-requires c =
+    let head = free_in c.free.ensures c.in-Ok.is in
     let n = c.head_registers-n.ensures in
     let size : length c.free.new.answer ≡ max_registers = c.free.auto.answer in
     (omega (arith, head.most, n), omega (arith, head.most, n))
 
-pub returns-in-Refused : goal.returns-in-Refused
-returns-in-Refused c =
-    free-refused c.free.ensures c.in-Refused.is c.put_refusal-size.ensures
+pub returns-in-Err : goal.returns-in-Err
+returns-in-Err c =
+    free-refused c.free.ensures c.in-Err.is c.put_refusal-size.ensures
 
-pub returns-in-Periods : goal.returns-in-Periods
-returns-in-Periods c =
-    free-periods c.free.ensures c.in-Periods.is c.head_registers-n.ensures c.put_free-size.ensures
+pub returns-in-Ok : goal.returns-in-Ok
+returns-in-Ok c =
+    free-periods c.free.ensures c.in-Ok.is c.head_registers-n.ensures c.put_free.ensures

@@ -1,5 +1,5 @@
 -- `put_timings`: a line for each register.
--- Invariant `Listing`: the lines of the first r registers are stored. What falls: n - r.
+-- Invariant `Listing`: the lines of the first r registers are stored.
 use native.Mathlib.Omega.{arith}
 use Rattle.text_pieces.proofs.PutLaws.{listing_start, listing-turn, listing-end}
 use Rattle.schedule_text.specs.ScheduleText.{timing_lines}
