@@ -4,23 +4,21 @@
 
 ghost use Rattle.std.specs.Prelude.{◌≡◌};
 ghost use Rattle.timing.specs.Limits.{max_timing};
-ghost use Rattle.list_format.specs.Lists.{pair_count, pairs, IsUsable, UsableList};
+ghost use Rattle.list_format.specs.Lists.{pairs};
 ghost use Rattle.free_laws.specs.Constraint.{constraints, Bound};
 ghost use Rattle.free_laws.specs.Raise.{Risen};
 ghost use Rattle.free_rounds.specs.Raise.{Raising};
 
+use delay_list::DelayList;
 use free_rounds::PARENTS;
 
 // The register that a rule starts from, or r where the list has no such rule.
-fn source(words: &[u32], count: usize, rule: u16, r: usize) -> usize
-    requires usable { IsUsable words.now }
-    requires count_value { count ≡ pair_count words.now }
-{
+fn source(list: DelayList, rule: u16, r: usize) -> usize {
     let k = usize::from(rule / 2);
-    if k >= count {
+    if k >= list.pairs {
         return r;
     }
-    let p = delay_list::pair_at(words, k);
+    let p = list.pair(k);
     if rule % 2 == 0 {
         return p.launch as usize;
     }
@@ -28,11 +26,8 @@ fn source(words: &[u32], count: usize, rule: u16, r: usize) -> usize
 }
 
 // The register that the parent of r starts from; r itself if it has none.
-pub fn above(words: &[u32], count: usize, parents: &[u16; PARENTS], r: usize) -> usize
-    requires usable { IsUsable words.now }
-    requires count_value { count ≡ pair_count words.now }
-{
-    source(words, count, parents[r % PARENTS], r)
+pub fn above(list: DelayList, parents: &[u16; PARENTS], r: usize) -> usize {
+    source(list, parents[r % PARENTS], r)
 }
 
 // Registers that ways up along parents have met: the mark of the way that met each first, 0 if none has; and the registers of the
@@ -53,17 +48,7 @@ pub struct Way {
 
 impl Met {
     // From r up along parents to a register that has been met: each on the way is marked and put on the stack.
-    fn go_up(
-        &mut self,
-        words: &[u32],
-        count: usize,
-        parents: &[u16; PARENTS],
-        r: usize,
-        mark: u16,
-    ) -> Way
-        requires usable { IsUsable words.now }
-        requires count_value { count ≡ pair_count words.now }
-    {
+    fn go_up(&mut self, list: DelayList, parents: &[u16; PARENTS], r: usize, mark: u16) -> Way {
         let mut last = r % PARENTS;
         let mut at = r % PARENTS;
         self.height = 0;
@@ -75,83 +60,60 @@ impl Met {
             self.stack[i] = at as u16;
             self.height = i + 1;
             last = at;
-            at = above(words, count, parents, at) % PARENTS;
+            at = above(list, parents, at) % PARENTS;
         }
         Way { last, to: at }
     }
 
     // The period that the cycle asks for which a way up has closed; 0 if it has closed none.
-    fn closed(
-        &self,
-        words: &[u32],
-        count: usize,
-        n: usize,
-        parents: &[u16; PARENTS],
-        way: Way,
-        mark: u16,
-    ) -> u32
-        requires { UsableList words.now n count }
-        ensures { Bound (pairs words.now) result }
+    fn closed(&self, list: DelayList, parents: &[u16; PARENTS], way: Way, mark: u16) -> u32
+        ensures { Bound (pairs list.entry.words.now) result }
     {
         let to = way.to;
-        if self.marks[to % PARENTS] != mark || to == way.last || to >= n {
+        if self.marks[to % PARENTS] != mark || to == way.last || to >= list.registers {
             return 0;
         }
-        free_cycles::around(words, count, n, parents, to as u32)
+        free_cycles::around(list, parents, to as u32)
     }
 
     // The registers on the stack, from the top down, each raised as its parent asks.
-    fn come_down(
-        &self,
-        words: &[u32],
-        count: usize,
-        x: &mut [u32],
-        parents: &mut [u16; PARENTS],
-        period: u32,
-    )
-        requires { Raising words.now count period x.old }
-        ensures { Risen max_timing (constraints period (pairs words.now)) x.old x.new }
+    fn come_down(&self, list: DelayList, x: &mut [u32], parents: &mut [u16; PARENTS], period: u32)
+        requires { Raising list.words.now list.pairs period x.old }
+        ensures { Risen max_timing (constraints period (pairs list.entry.words.now)) x.old x.new }
     {
         for i in (0..self.height).rev() {
             let r = usize::from(self.stack[i % PARENTS]);
             let rule = parents[r % PARENTS];
-            free_rounds::apply(words, count, x, parents, period, rule);
+            free_rounds::apply(list, x, parents, period, rule);
         }
     }
 
     // The way up from r, and down again.
     fn branch(
         &mut self,
-        words: &[u32],
-        count: usize,
+        list: DelayList,
         x: &mut [u32],
         parents: &mut [u16; PARENTS],
         period: u32,
         r: usize,
     ) -> u32
-        requires { Raising words.now count period x.old }
-        ensures risen { Risen max_timing (constraints period (pairs words.now)) x.old x.new }
-        ensures bound { Bound (pairs words.now) result }
+        requires { Raising list.words.now list.pairs period x.old }
+        ensures risen { Risen max_timing (constraints period (pairs list.entry.words.now)) x.old x.new }
+        ensures bound { Bound (pairs list.entry.words.now) result }
     {
         let mark = ((r % PARENTS) as u16) + 1;
-        let way = self.go_up(words, count, parents, r, mark);
-        let longer = self.closed(words, count, x.len(), parents, way, mark);
-        self.come_down(words, count, x, parents, period);
+        let way = self.go_up(list, parents, r, mark);
+        let longer = self.closed(list, parents, way, mark);
+        self.come_down(list, x, parents, period);
         longer
     }
 }
 
 // Every register raised as its parent asks. The longest period that a cycle of parents asks for, or 0.
-pub fn carry(
-    words: &[u32],
-    count: usize,
-    x: &mut [u32],
-    parents: &mut [u16; PARENTS],
-    period: u32,
-) -> u32
-    requires { Raising words.now count period x.old }
-    ensures risen { Risen max_timing (constraints period (pairs words.now)) x.old x.new }
-    ensures bound { Bound (pairs words.now) result }
+pub fn carry(list: DelayList, x: &mut [u32], parents: &mut [u16; PARENTS], period: u32) -> u32
+    requires { Raising list.words.now list.pairs period x.old }
+    ensures risen { Risen max_timing (constraints period (pairs list.entry.words.now)) x.old x.new }
+    ensures bound { Bound (pairs list.entry.words.now) result }
 {
     let mut met = Met {
         marks: [0; PARENTS],
@@ -160,7 +122,7 @@ pub fn carry(
     };
     let mut most = 0;
     for r in 0..x.len() {
-        let longer = met.branch(words, count, x, parents, period, r);
+        let longer = met.branch(list, x, parents, period, r);
         most = most.max(longer);
     }
     most

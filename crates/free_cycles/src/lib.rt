@@ -4,10 +4,11 @@
 
 ghost use Rattle.std.specs.Prelude.{◌≡◌, ℕ, ◌+◌, ◌*◌, ◌≤◌, ◌<◌, IfSome};
 ghost use Rattle.timing.specs.Limits.{max_period};
-ghost use Rattle.list_format.specs.Lists.{registers, pairs, UsableList};
+ghost use Rattle.list_format.specs.Lists.{registers, pairs};
 ghost use Rattle.free_laws.specs.Constraint.{Bound};
 ghost use Rattle.free_cycles.specs.Tracing.{Traced, Further};
 
+use delay_list::DelayList;
 use free_rounds::PARENTS;
 
 // A trail back along rules, from the register `start` to the register `at`: what the rules ask for, what they leave,
@@ -39,17 +40,16 @@ impl Trail {
 
 // One step back, along rule 2k, setup of pair k, or 2k + 1, its hold. There is none along what is no rule into the register where
 // the trail stands.
-fn along(words: &[u32], count: usize, n: usize, rule: u16, w: Trail) -> Option<Trail>
-    requires usable_list { UsableList words.now n count }
-    requires traced { Traced words.now n w }
-    requires steps_lt_n { w.steps < n }
-    ensures { IfSome result (Further words.now n w) }
+fn along(list: DelayList, rule: u16, w: Trail) -> Option<Trail>
+    requires traced { Traced list.words.now list.registers w }
+    requires steps_lt_n { w.steps < list.registers }
+    ensures { IfSome result (Further list.entry.words.now list.entry.registers w) }
 {
     let k = usize::from(rule / 2);
-    if k >= count {
+    if k >= list.pairs {
         return None;
     }
-    let p = delay_list::pair_at(words, k);
+    let p = list.pair(k);
     let mut next = w;
     next.steps = w.steps + 1;
     if rule % 2 == 0 {
@@ -70,25 +70,23 @@ fn along(words: &[u32], count: usize, n: usize, rule: u16, w: Trail) -> Option<T
 }
 
 // One step back, along the rule that raised the register last.
-fn back(words: &[u32], count: usize, n: usize, parents: &[u16; PARENTS], w: Trail) -> Option<Trail>
-    requires usable_list { UsableList words.now n count }
-    requires traced { Traced words.now n w }
-    requires steps_lt_n { w.steps < n }
-    ensures { IfSome result (Further words.now n w) }
+fn back(list: DelayList, parents: &[u16; PARENTS], w: Trail) -> Option<Trail>
+    requires traced { Traced list.words.now list.registers w }
+    requires steps_lt_n { w.steps < list.registers }
+    ensures { IfSome result (Further list.entry.words.now list.entry.registers w) }
 {
     let at = w.at as usize;
-    along(words, count, n, parents[at], w)
+    along(list, parents[at], w)
 }
 
 // Where up to n steps back lead from a register.
-fn origin(words: &[u32], count: usize, n: usize, parents: &[u16; PARENTS], last: u32) -> u32
-    requires usable_list { UsableList words.now n count }
-    requires last_bound { last < registers words.now }
-    ensures { result < registers words.now }
+fn origin(list: DelayList, parents: &[u16; PARENTS], last: u32) -> u32
+    requires last_bound { last < registers list.words.now }
+    ensures { result < registers list.entry.words.now }
 {
     let mut w = Trail::standing(last);
-    while w.steps < n {
-        match back(words, count, n, parents, w) {
+    while w.steps < list.registers {
+        match back(list, parents, w) {
             None => return w.at,
             Some(next) => w = next,
         }
@@ -110,14 +108,13 @@ fn needed(w: Trail) -> u32
 }
 
 // The period that the cycle of parents through a register asks for; 0 if it is on none.
-pub fn around(words: &[u32], count: usize, n: usize, parents: &[u16; PARENTS], start: u32) -> u32
-    requires usable_list { UsableList words.now n count }
-    requires start_bound { start < registers words.now }
-    ensures { Bound (pairs words.now) result }
+pub fn around(list: DelayList, parents: &[u16; PARENTS], start: u32) -> u32
+    requires start_bound { start < registers list.words.now }
+    ensures { Bound (pairs list.entry.words.now) result }
 {
     let mut w = Trail::standing(start);
-    while w.steps < n {
-        match back(words, count, n, parents, w) {
+    while w.steps < list.registers {
+        match back(list, parents, w) {
             None => return 0,
             Some(next) => w = next,
         }
@@ -129,11 +126,10 @@ pub fn around(words: &[u32], count: usize, n: usize, parents: &[u16; PARENTS], s
 }
 
 // A period below which there is no schedule, shown by the cycle of parents behind a register; 0 if there is none.
-pub fn cycle(words: &[u32], count: usize, n: usize, parents: &[u16; PARENTS], last: u32) -> u32
-    requires usable_list { UsableList words.now n count }
-    requires last_bound { last < registers words.now }
-    ensures { Bound (pairs words.now) result }
+pub fn cycle(list: DelayList, parents: &[u16; PARENTS], last: u32) -> u32
+    requires last_bound { last < registers list.words.now }
+    ensures { Bound (pairs list.entry.words.now) result }
 {
-    let start = origin(words, count, n, parents, last);
-    around(words, count, n, parents, start)
+    let start = origin(list, parents, last);
+    around(list, parents, start)
 }

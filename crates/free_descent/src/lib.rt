@@ -5,9 +5,10 @@
 #![tactic(auto)]
 
 ghost use Rattle.std.specs.Prelude.{◌≡◌, length};
-ghost use Rattle.list_format.specs.Lists.{pair_count, pairs, IsUsable, UsableList};
+ghost use Rattle.list_format.specs.Lists.{pairs};
 ghost use Rattle.free_laws.specs.Constraint.{Bound};
 
+use delay_list::DelayList;
 use free_forest::{ASIDE, Across, Forest, Here, Link, NOBODY, Span};
 use pair_ends::{Ends, REGISTERS};
 
@@ -118,12 +119,9 @@ impl Keys {
     }
 
     // The keys with all times 0.
-    fn begin(&mut self, words: &[u32], count: usize, low: u32)
-        requires usable { IsUsable words.now }
-        requires count_value { count ≡ pair_count words.now }
-    {
-        for k in 0..count {
-            let p = delay_list::pair_at(words, k);
+    fn begin(&mut self, list: DelayList, low: u32) {
+        for k in 0..list.pairs {
+            let p = list.pair(k);
             let r = (p.capture as usize) % REGISTERS;
             self.key[r] = self.key[r].max(first_key(p.greatest, low, k));
         }
@@ -198,13 +196,13 @@ impl Descent {
     }
 
     // Of the rules that end at register r the largest key.
-    fn worst_into(&self, words: &[u32], count: usize, ends: Ends, x: &[u32], r: usize) -> u32
-        requires { UsableList words.now (length x.now) count }
+    fn worst_into(&self, list: DelayList, ends: Ends, x: &[u32], r: usize) -> u32
+        requires { length x.now ≡ list.registers }
     {
         let h = self.forest.here(x, r);
         let mut most = 0;
         for end in ends.at(r) {
-            let a = free_forest::across_at(words, count, x, end);
+            let a = free_forest::across_at(list, x, end);
             most = self.worse(most, h, a, end);
         }
         most
@@ -222,27 +220,19 @@ impl Descent {
     }
 
     // All rules that start from register r.
-    fn ask_from(&mut self, words: &[u32], count: usize, ends: Ends, x: &[u32], r: usize)
-        requires { UsableList words.now (length x.now) count }
+    fn ask_from(&mut self, list: DelayList, ends: Ends, x: &[u32], r: usize)
+        requires { length x.now ≡ list.registers }
     {
         let h = self.forest.here(x, r);
         for end in ends.at(r) {
-            let a = free_forest::across_at(words, count, x, end);
+            let a = free_forest::across_at(list, x, end);
             self.ask(h, a, end);
         }
     }
 
     // All rules that start below register r, in its branch to `last`.
-    fn ask_below(
-        &mut self,
-        words: &[u32],
-        count: usize,
-        ends: Ends,
-        x: &[u32],
-        r: usize,
-        last: usize,
-    )
-        requires { UsableList words.now (length x.now) count }
+    fn ask_below(&mut self, list: DelayList, ends: Ends, x: &[u32], r: usize, last: usize)
+        requires { length x.now ≡ list.registers }
     {
         let mut q = r;
         for _ in 0..x.len() {
@@ -253,18 +243,18 @@ impl Descent {
                 return;
             };
             q = next;
-            self.ask_from(words, count, ends, x, q);
+            self.ask_from(list, ends, x, q);
         }
     }
 
     // Both rules of each pair at register r: those that start there are asked; the largest key of those that end there.
-    fn meet_all(&mut self, words: &[u32], count: usize, ends: Ends, x: &[u32], r: usize) -> u32
-        requires { UsableList words.now (length x.now) count }
+    fn meet_all(&mut self, list: DelayList, ends: Ends, x: &[u32], r: usize) -> u32
+        requires { length x.now ≡ list.registers }
     {
         let h = self.forest.here(x, r);
         let mut most = 0;
         for end in ends.at(r) {
-            let a = free_forest::across_at(words, count, x, end);
+            let a = free_forest::across_at(list, x, end);
             self.ask(h, a, end);
             most = self.worse(most, h, a, end);
         }
@@ -293,26 +283,25 @@ impl Descent {
     // cycle. Whether the descent goes on.
     fn hang(
         &mut self,
-        words: &[u32],
-        count: usize,
+        list: DelayList,
         ends: Ends,
         x: &mut [u32],
         parents: &mut [u16; REGISTERS],
         r: usize,
         l: Link,
     ) -> bool
-        requires { UsableList words.now (length x.old) count }
+        requires { length x.old ≡ list.registers }
     {
         let by = self.forest.distance(l);
-        let last = self.forest.move_branch(words, count, x, parents, r, by);
+        let last = self.forest.move_branch(list, x, parents, r, by);
         if self.forest.moves(l.from) {
             return false;
         }
         self.notes.note(r, parents[r % REGISTERS]);
         parents[r % REGISTERS] = self.rule;
         self.forest.put_below(r, last, l.from);
-        self.ask_below(words, count, ends, x, r, last);
-        let worst = self.meet_all(words, count, ends, x, r);
+        self.ask_below(list, ends, x, r, last);
+        let worst = self.meet_all(list, ends, x, r);
         self.forest.stand_still(r, last);
         self.keys.lower(r, worst);
         self.resume();
@@ -345,13 +334,12 @@ impl Descent {
     // rule into the register at hand has to be broken up to its key, or, where it had been put off, up to the level.
     fn turn(
         &mut self,
-        words: &[u32],
-        count: usize,
+        list: DelayList,
         ends: Ends,
         x: &mut [u32],
         parents: &mut [u16; REGISTERS],
     ) -> bool
-        requires { UsableList words.now (length x.old) count }
+        requires { length x.old ≡ list.registers }
     {
         let fresh = self.at.is_none();
         self.at = self.taken(x.len());
@@ -360,13 +348,13 @@ impl Descent {
         };
         let own = self.keys.of(r);
         self.rule = rule_of(own);
-        let a = free_forest::across_at(words, count, x, self.rule);
+        let a = free_forest::across_at(list, x, self.rule);
         let l = a.rule_from(self.forest.here(x, a.at), self.low);
         let source = self.forest.setups(l.from);
         let until = l.broken_until(source, self.forest.setups(r), self.span());
         let due = if fresh { until_of(own) } else { self.level };
         if until < due {
-            let worst = self.worst_into(words, count, ends, x, r);
+            let worst = self.worst_into(list, ends, x, r);
             self.keys.lower(r, worst);
             self.resume();
             return true;
@@ -376,24 +364,23 @@ impl Descent {
             self.put_off(r, l.from);
             return true;
         }
-        self.hang(words, count, ends, x, parents, r, l)
+        self.hang(list, ends, x, parents, r, l)
     }
 
     // The period that the cycle asks for which the rule at the register at hand closes; 0 if it closes none. The parents are left
     // as they are at the shortest period without a cycle.
-    fn closed(&self, words: &[u32], count: usize, n: usize, parents: &mut [u16; REGISTERS]) -> u32
-        requires { UsableList words.now n count }
-        ensures { Bound (pairs words.now) result }
+    fn closed(&self, list: DelayList, parents: &mut [u16; REGISTERS]) -> u32
+        ensures { Bound (pairs list.entry.words.now) result }
     {
         let Some(r) = self.at else {
             return NOTHING;
         };
-        if r >= n {
+        if r >= list.registers {
             return NOTHING;
         }
         let own = parents[r % REGISTERS];
         parents[r % REGISTERS] = self.rule;
-        let longer = free_cycles::around(words, count, n, parents, r as u32);
+        let longer = free_cycles::around(list, parents, r as u32);
         parents[r % REGISTERS] = own;
         self.notes.take_back(parents);
         longer
@@ -409,15 +396,14 @@ const TURNS: usize = 64 * REGISTERS;
 // The descent to the period `low`. What a cycle that was met on the way asks for, else 0; the parents are left so that raises along
 // them are seen to give the times of the shortest period without a cycle.
 pub fn descend(
-    words: &[u32],
-    count: usize,
+    list: DelayList,
     x: &mut [u32],
     parents: &mut [u16; REGISTERS],
     ends: Ends,
     low: u32,
 ) -> u32
-    requires { UsableList words.now (length x.old) count }
-    ensures { Bound (pairs words.now) result }
+    requires { length x.old ≡ list.registers }
+    ensures { Bound (pairs list.entry.words.now) result }
 {
     let mut d = Descent {
         forest: Forest {
@@ -442,12 +428,12 @@ pub fn descend(
         rule: 0,
     };
     d.forest.set_apart(x, parents);
-    d.keys.begin(words, count, low);
+    d.keys.begin(list, low);
     d.keys.find_tops(x.len());
     for _ in 0..TURNS {
-        if !d.turn(words, count, ends, x, parents) {
+        if !d.turn(list, ends, x, parents) {
             break;
         }
     }
-    d.closed(words, count, x.len(), parents)
+    d.closed(list, parents)
 }

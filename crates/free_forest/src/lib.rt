@@ -4,8 +4,8 @@
 #![tactic(auto)]
 
 ghost use Rattle.std.specs.Prelude.{◌≡◌, ◌<◌, length};
-ghost use Rattle.list_format.specs.Lists.{pair_count, IsUsable, UsableList};
 
+use delay_list::DelayList;
 use free_rounds::NO_RULE;
 use pair_ends::REGISTERS;
 
@@ -56,12 +56,12 @@ pub struct Distance {
 }
 
 // Where the list has no such end, one whose rules are met.
-pub fn across_at(words: &[u32], count: usize, x: &[u32], end: u16) -> Across
-    requires { UsableList words.now (length x.now) count }
+pub fn across_at(list: DelayList, x: &[u32], end: u16) -> Across
+    requires { length x.now ≡ list.registers }
 {
     let k = usize::from(end / 2);
     let launch = end % 2 == 0;
-    if k >= count {
+    if k >= list.pairs {
         return Across {
             at: 0,
             register: 0,
@@ -71,7 +71,7 @@ pub fn across_at(words: &[u32], count: usize, x: &[u32], end: u16) -> Across
             launch,
         };
     }
-    let p = delay_list::pair_at(words, k);
+    let p = list.pair(k);
     let (at, across) = if launch {
         (p.launch, p.capture)
     } else {
@@ -280,23 +280,19 @@ impl Forest {
     // Register r and all that hangs below it are moved; the last of them in their order.
     pub fn move_branch(
         &mut self,
-        words: &[u32],
-        count: usize,
+        list: DelayList,
         x: &mut [u32],
         parents: &[u16; REGISTERS],
         r: usize,
         by: Distance,
-    ) -> usize
-        requires usable { IsUsable words.now }
-        requires count_value { count ≡ pair_count words.now }
-    {
+    ) -> usize {
         self.shift(x, r, by);
         let mut last = r;
         for _ in 0..x.len() {
             let Some(q) = self.after(last) else {
                 return last;
             };
-            if !self.moves(free_carry::above(words, count, parents, q)) {
+            if !self.moves(free_carry::above(list, parents, q)) {
                 return last;
             }
             self.shift(x, q, by);

@@ -8,6 +8,7 @@ ghost use Rattle.free_laws.specs.Constraint.{constraints, Bound};
 ghost use Rattle.free_laws.specs.Raise.{Risen};
 ghost use Rattle.free_rounds.specs.Raise.{Raising};
 
+use delay_list::DelayList;
 use pair_ends::{Ends, REGISTERS};
 use timing::MAX_PAIRS;
 
@@ -67,19 +68,18 @@ impl Line {
     // The rules that start from register r: each has the number of the end there.
     fn visit(
         &mut self,
-        words: &[u32],
-        count: usize,
+        list: DelayList,
         x: &mut [u32],
         parents: &mut [u16; REGISTERS],
         period: u32,
         ends: Ends,
         r: usize,
     )
-        requires { Raising words.now count period x.old }
-        ensures { Risen max_timing (constraints period (pairs words.now)) x.old x.new }
+        requires { Raising list.words.now list.pairs period x.old }
+        ensures { Risen max_timing (constraints period (pairs list.entry.words.now)) x.old x.new }
     {
         for rule in ends.at(r) {
-            let raised = free_rounds::apply(words, count, x, parents, period, rule);
+            let raised = free_rounds::apply(list, x, parents, period, rule);
             self.looked(x.len(), raised);
         }
     }
@@ -87,22 +87,21 @@ impl Line {
     // Turns until the line is over, or as many have been taken as there are registers.
     fn chase(
         &mut self,
-        words: &[u32],
-        count: usize,
+        list: DelayList,
         x: &mut [u32],
         parents: &mut [u16; REGISTERS],
         period: u32,
         ends: Ends,
     )
-        requires { Raising words.now count period x.old }
-        ensures { Risen max_timing (constraints period (pairs words.now)) x.old x.new }
+        requires { Raising list.words.now list.pairs period x.old }
+        ensures { Risen max_timing (constraints period (pairs list.entry.words.now)) x.old x.new }
     {
         for _ in 0..x.len() {
             if self.is_over() {
                 return;
             }
             let r = self.take_first();
-            self.visit(words, count, x, parents, period, ends, r);
+            self.visit(list, x, parents, period, ends, r);
         }
     }
 
@@ -126,33 +125,32 @@ pub fn remember(x: &[u32], old: &mut [u32; REGISTERS]) {
 // From the registers that rose since their times were remembered, stretches of as many turns as there are registers at most, until
 // the line is over, with raises along the parents after each. A longer period if a cycle of parents asks for one, else 0.
 pub fn settle(
-    words: &[u32],
-    count: usize,
+    list: DelayList,
     x: &mut [u32],
     parents: &mut [u16; REGISTERS],
     period: u32,
     ends: Ends,
     old: &mut [u32; REGISTERS],
 ) -> u32
-    requires { Raising words.now count period x.old }
-    ensures risen { Risen max_timing (constraints period (pairs words.now)) x.old x.new }
-    ensures bound { Bound (pairs words.now) result }
+    requires { Raising list.words.now list.pairs period x.old }
+    ensures risen { Risen max_timing (constraints period (pairs list.entry.words.now)) x.old x.new }
+    ensures bound { Bound (pairs list.entry.words.now) result }
 {
     let mut line = Line {
         places: [0; REGISTERS],
         waits: [0; REGISTERS],
         first: 0,
         waiting: 0,
-        left: LOOKS * (count % MOST),
+        left: LOOKS * (list.pairs % MOST),
     };
     for _ in 0..x.len() {
         line.collect(x, old);
-        line.chase(words, count, x, parents, period, ends);
+        line.chase(list, x, parents, period, ends);
         if line.is_over() {
             return 0;
         }
         remember(x, old);
-        let longer = free_carry::carry(words, count, x, parents, period);
+        let longer = free_carry::carry(list, x, parents, period);
         if period < longer {
             return longer;
         }

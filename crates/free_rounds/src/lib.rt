@@ -9,6 +9,7 @@ ghost use Rattle.free_laws.specs.Constraint.{constraints};
 ghost use Rattle.free_laws.specs.Raise.{raise_to, relax_to, Risen, RoundTo};
 ghost use Rattle.free_rounds.specs.Raise.{Raisable, Relaxable, Raising};
 
+use delay_list::DelayList;
 use timing::Pair;
 
 // Places for the parent of each register: the rule that raised it last, 2k for setup of pair k and 2k + 1 for its hold.
@@ -66,21 +67,20 @@ fn relax(
 // One round over the pairs, up or down the list. The answer is the register raised last, or the count of registers
 // if none was.
 pub fn round(
-    words: &[u32],
-    count: usize,
+    list: DelayList,
     x: &mut [u32],
     parents: &mut [u16; PARENTS],
     period: u32,
     down: bool,
 ) -> usize
-    requires { Raising words.now count period x.old }
-    ensures { RoundTo max_timing (constraints period (pairs words.now)) x.old x.new }
+    requires { Raising list.words.now list.pairs period x.old }
+    ensures { RoundTo max_timing (constraints period (pairs list.entry.words.now)) x.old x.new }
 {
     let step = delay_list::walk_step(down);
     let mut last = x.len();
-    let mut k = delay_list::walk_start(count, down);
-    for i in 0..count {
-        let p = delay_list::pair_at(words, k);
+    let mut k = delay_list::walk_start(list.pairs, down);
+    for i in 0..list.pairs {
+        let p = list.pair(k);
         last = relax(x, parents, p, period, k, last);
         k = k.wrapping_add(step);
     }
@@ -90,22 +90,21 @@ pub fn round(
 // One rule alone, 2k for setup of pair k and 2k + 1 for its hold, if the list has it. The answer is the register that it raised,
 // or the count of registers if it raised none.
 pub fn apply(
-    words: &[u32],
-    count: usize,
+    list: DelayList,
     x: &mut [u32],
     parents: &mut [u16; PARENTS],
     period: u32,
     rule: u16,
 ) -> usize
-    requires { Raising words.now count period x.old }
-    ensures { Risen max_timing (constraints period (pairs words.now)) x.old x.new }
+    requires { Raising list.words.now list.pairs period x.old }
+    ensures { Risen max_timing (constraints period (pairs list.entry.words.now)) x.old x.new }
 {
     let none = x.len();
     let k = (rule / 2) as usize;
-    if k >= count {
+    if k >= list.pairs {
         return none;
     }
-    let p = delay_list::pair_at(words, k);
+    let p = list.pair(k);
     let a = p.launch as usize;
     let b = p.capture as usize;
     if rule % 2 == 0 {

@@ -2,10 +2,10 @@
 // They are a hint only, and nothing is promised of them.
 #![tactic(auto)]
 
-ghost use Rattle.std.specs.Prelude.{◌≡◌, ◌^◌, ◌<◌, ◌≤◌};
+ghost use Rattle.std.specs.Prelude.{◌^◌, ◌<◌, ◌≤◌};
 ghost use Rattle.std.specs.Iterator.{at_most};
-ghost use Rattle.list_format.specs.Lists.{pair_count, IsUsable};
 
+use delay_list::DelayList;
 use timing::MAX_PAIRS;
 
 pub const REGISTERS: usize = timing::MAX_REGISTERS as usize;
@@ -86,18 +86,15 @@ fn left_of(before: &[u16], end: u16) -> u16
     if next <= end { next } else { 0 }
 }
 
-// Both ends of every pair are put in the places lent.
+// Both ends of every pair of a list are put in the places lent.
 pub fn link<'a>(
-    words: &[u32],
-    count: usize,
+    list: DelayList,
     lasts: &'a mut [u16; REGISTERS],
     before: &'a mut [u16],
 ) -> Ends<'a>
-    requires usable { IsUsable words.now }
-    requires count_value { count ≡ pair_count words.now }
 {
-    for k in 0..count {
-        let p = delay_list::pair_at(words, k);
+    for k in 0..list.pairs {
+        let p = list.pair(k);
         let first = 2 * (k % MAX_PAIRS);
         join(p.launch as usize, p.capture as usize, first, lasts, before);
     }

@@ -8,4 +8,4 @@ use Rattle.free_carry.proofs.carry.Given as goal
 
 abbrev pub invariant-loop-r : goal.invariant-loop-r
 invariant-loop-r l =
-    Risen max_timing (constraints l.period (pairs l.words)) l.initial.x l.x × Bound (pairs l.words) l.most
+    Risen max_timing (constraints l.period (pairs l.list.words.now)) l.initial.x l.x × Bound (pairs l.list.words.now) l.most

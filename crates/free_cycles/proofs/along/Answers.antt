@@ -4,8 +4,8 @@ use Rattle.free_cycles.proofs.along.Goals as goal
 
 pub returns-then-rule-eq0 : goal.returns-then-rule-eq0
 returns-then-rule-eq0 c =
-    back-setup c.requires.usable_list c.requires.traced c.requires.steps_lt_n c.pair_at-p.ensures c.if-k-count.false c.if-p-w.false
+    back-setup c.args.list.usable c.requires.traced c.requires.steps_lt_n c.pair-p.ensures c.if-k-list.false c.if-p-w.false
 
 pub returns : goal.returns
 returns c =
-    back-hold c.requires.usable_list c.requires.traced c.requires.steps_lt_n c.pair_at-p.ensures c.if-k-count.false c.if-p-w-2.false
+    back-hold c.args.list.usable c.requires.traced c.requires.steps_lt_n c.pair-p.ensures c.if-k-list.false c.if-p-w-2.false

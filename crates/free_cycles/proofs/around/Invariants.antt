@@ -5,7 +5,7 @@ use Rattle.free_cycles.specs.Tracing.{Traced}
 use Rattle.free_cycles.proofs.around.Given as goal
 
 abbrev pub invariant-loop-w : goal.invariant-loop-w
-invariant-loop-w l = Traced l.words l.n l.w
+invariant-loop-w l = Traced l.list.words.now l.list.registers l.w
 
 abbrev pub decreases-loop-w : goal.decreases-loop-w
-decreases-loop-w l = l.n - l.w.steps
+decreases-loop-w l = l.list.registers - l.w.steps

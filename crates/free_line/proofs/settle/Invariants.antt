@@ -8,4 +8,4 @@ use Rattle.free_line.proofs.settle.Given as goal
 
 abbrev pub invariant-loop : goal.invariant-loop
 invariant-loop l =
-    Risen max_timing (constraints l.period (pairs l.words)) l.initial.x l.x
+    Risen max_timing (constraints l.period (pairs l.list.words.now)) l.initial.x l.x

@@ -9,9 +9,9 @@ pub loop-i-preserved : goal.loop-i-preserved
 loop-i-preserved c =
     let below = c.loop-i-test.true in
     let at = c.loop-i.invariant.1 below in (
-      part-turn c.requires c.args.down c.loop-i.invariant.0 (rw at (place-below c.args.count c.args.down below)) at below
-          c.pair_at-p.ensures c.relax-last.ensures,
-      λ more. rw (at, c.walk_step-step.ensures) (place-next c.args.count c.args.down c.loop-i.i (omega arith) more),
+      part-turn c.requires c.args.down c.loop-i.invariant.0 (rw at (place-below c.args.list.pairs c.args.down below)) at below
+          c.pair-p.ensures c.relax-last.ensures,
+      λ more. rw (at, c.walk_step-step.ensures) (place-next c.args.list.pairs c.args.down c.loop-i.i (omega arith) more),
     )
 
 pub returns : goal.returns

@@ -7,4 +7,4 @@ use Rattle.free_rounds.proofs.round.Given as goal
 
 abbrev pub invariant-loop-i : goal.invariant-loop-i
 invariant-loop-i l =
-    Part l.words l.period l.down l.initial.x l.x l.i × (l.i < l.count → l.k ≡ place_of l.count l.down l.i)
+    Part l.list.words.now l.period l.down l.initial.x l.x l.i × (l.i < l.list.pairs → l.k ≡ place_of l.list.pairs l.down l.i)

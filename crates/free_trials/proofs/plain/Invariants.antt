@@ -4,4 +4,4 @@ use Rattle.free_trials.specs.Trial.{Trying}
 use Rattle.free_trials.proofs.plain.Given as goal
 
 abbrev pub invariant-loop-done : goal.invariant-loop-done
-invariant-loop-done l = Trying l.words l.period l.x l.done
+invariant-loop-done l = Trying l.list.words.now l.period l.x l.done

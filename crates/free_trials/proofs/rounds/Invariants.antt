@@ -7,4 +7,4 @@ use Rattle.free_laws.specs.Raise.{Risen}
 use Rattle.free_trials.proofs.rounds.Given as goal
 
 abbrev pub invariant-loop-done : goal.invariant-loop-done
-invariant-loop-done l = Risen max_timing (constraints l.period (pairs l.words)) l.initial.x l.x
+invariant-loop-done l = Risen max_timing (constraints l.period (pairs l.list.words.now)) l.initial.x l.x

@@ -7,4 +7,4 @@ use Rattle.free_laws.specs.Raise.{Risen}
 use Rattle.free_carry.proofs.Met.come_down.Given as goal
 
 abbrev pub invariant-loop-i : goal.invariant-loop-i
-invariant-loop-i l = Risen max_timing (constraints l.period (pairs l.words)) l.initial.x l.x
+invariant-loop-i l = Risen max_timing (constraints l.period (pairs l.list.words.now)) l.initial.x l.x
