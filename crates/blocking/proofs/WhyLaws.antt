@@ -3,7 +3,6 @@
 -- two chains block the period, so no split works.
 use Prim.Native.Nat.{ℕ, ◌+◌, ◌-◌, ◌*◌, ◌/◌, ◌%◌, ◌≤◌, ◌<◌}
 use mathlib.Core.Bool.{Bool, true, false, not}
-use mathlib.Core.Logic.{inl, inr}
 use mathlib.Core.List.{List, [], ◌++◌, map}
 use mathlib.Core.Path.{◌≡◌, refl, ap, sym, ◌∙◌, subst}
 use native.Mathlib.Omega.{arith}
@@ -38,7 +37,8 @@ use Rattle.forced_late.specs.Forest.{early_early, early_late, late_early, late_l
 use Rattle.forced_late.proofs.ForestLaws.{ends-in}
 use Rattle.blocking.specs.declared.Blocked.{Blocked}
 use Rattle.blocking.specs.Paths.{chains_of, Clashing}
-use Rattle.blocking.specs.Blocking.{why_call_checks, why_checks, why_outcome, why_not, Reason, blocked_by, why_reply, BlockedBy, WhyAs, Ready, ChainsIn, WhyAllowed}
+use Rattle.blocking.specs.Blocking.{why_call_checks, why_checks, why_outcome, why_not, Reason, blocked_by}
+use Rattle.blocking.specs.Blocking.{why_reply, BlockedBy, WhyAs, Ready, ChainsIn, WhyAllowed}
 use Rattle.blocking.proofs.StepLaws.{broken-recorded}
 use Rattle.blocking.proofs.ChainsLaws.{chains-block}
 
@@ -101,6 +101,16 @@ module _ {ws : List ℕ} {n m : ℕ} (list : UsableList ws n m) (t s : ℕ) (S :
   late-works = each-works t s (late_in n S) (pairs ws) (each-pair ws (λ p. keeps t s p (late_in n S) ≡ true) pair-kept)
 
 -- ---- the ways to end
+
+-- what is told twice is the same
+some-same : {u v : Blocked} → ◌≡◌ {A = Reason} (Ok (Some u)) (Ok (Some v)) → u ≡ v
+some-same q = cc
+
+same-block : {r f s r' f' s' : ℕ} → blocked_by r f s ≡ blocked_by r' f' s' → (r' ≡ r) × ((f' ≡ f) × (s' ≡ s))
+same-block q = (
+  sym (ap (λ (b : Blocked). b.register) q),
+  (sym (ap (λ (b : Blocked). b.first) q), sym (ap (λ (b : Blocked). b.second) q)),
+)
 
 -- chains to name where none are shown
 abbrev no_chains : Chains
@@ -215,17 +225,14 @@ module _ (ws : List ℕ) (period : ℕ) (answer scratch : List ℕ) where
               blocked = λ register first second q. named register first second (sym x.told ∙ some-same q);
             }
           where
-            some-same : {u v : Blocked} → ◌≡◌ {A = Reason} (Ok (Some u)) (Ok (Some v)) → u ≡ v
-            some-same q = cc
-
             named : (register first second : ℕ)
                 → blocked_by (chains_of ws n S k).register (length (chains_of ws n S k).first) (length (chains_of ws n S k).second)
                 ≡ blocked_by register first second
                 → BlockedBy ws period (chains_of ws n S k) register first second
             named register first second q = record {
-              register_is = cc;
-              first_is = cc;
-              second_is = cc;
+              register_is = (same-block q).0;
+              first_is = (same-block q).1.0;
+              second_is = (same-block q).1.1;
               sound = sound;
               none = λ u v c y. blocks-rival (registers ws) period (pairs ws) (chains_of ws n S k) sound a.from u v c y;
             }

@@ -12,8 +12,8 @@ ghost use Rattle.forced_late.specs.Forest.{early_early, source_of};
 ghost use Rattle.blocking.specs.Paths.{first_chain, path_in, chain_in, Late, Traced, Clashing};
 ghost use Rattle.blocking.specs.Blocking.{why_call_checks, ChainsIn, Ready, WhyAs, WhyAllowed};
 
+use delay_list::DelayList;
 use forced_late::Row;
-use list_format::Counts;
 use refusals::{Refusal, Refused, check};
 use timing::PER_PAIR;
 
@@ -25,16 +25,15 @@ pub struct Blocked {
     pub second: u32,
 }
 
-// 3, 2 and 1, for a list of so many registers and pairs.
+// 3, 2 and 1, for a list.
 #[tactic(auto, unfolding(refusals::specs::Checks::or_check, refusals::specs::Checks::fault_after))]
-fn call_fault(counts: Counts, period: u32, room: usize, spare: usize) -> Result<(), Refused>
-    ensures { result ≡ first_fault (why_call_checks counts.registers counts.pairs period room spare) }
+fn call_fault(list: DelayList, period: u32, room: usize, spare: usize) -> Result<(), Refused>
+    ensures { result ≡ first_fault (why_call_checks list.entry.registers list.entry.pairs period room spare) }
 {
-    let n = counts.registers as usize;
-    let need = timing::scratch_places(n, counts.pairs as usize);
+    let need = timing::scratch_places(list.registers, list.pairs);
     check(period == 0, Refusal::Call, 0)?;
     check(period > timing::MAX_PERIOD, Refusal::Call, 0)?;
-    check(room < 4 * n, Refusal::Room, 0)?;
+    check(room < 4 * list.registers, Refusal::Room, 0)?;
     check(spare < need, Refusal::Scratch, 0)
 }
 
@@ -51,16 +50,17 @@ fn source(words: &[u32], step: usize) -> usize
 }
 
 // The steps from register r up to its root, in the places from 2n on. The root is returned.
-fn trace(words: &[u32], n: usize, m: usize, r: usize, scratch: &mut [u32]) -> usize
-    requires { Late words.now n m scratch.old r }
-    ensures { Traced words.now n r scratch.old scratch.new result }
+fn trace(list: DelayList, r: usize, scratch: &mut [u32]) -> usize
+    requires { Late list.words.now list.registers list.pairs scratch.old r }
+    ensures { Traced list.entry.words.now list.entry.registers r scratch.old scratch.new result }
 {
+    let n = list.registers;
     let height = (scratch[r] as usize) - 1;
     let mut at = r;
     for i in 0..height {
         let step = scratch[n + at];
         scratch[2 * n + i] = step;
-        at = source(words, step as usize);
+        at = source(list.words, step as usize);
     }
     at
 }
@@ -118,24 +118,24 @@ fn put_second(words: &[u32], k: usize, b: usize, path: &[u32], at: usize, answer
 }
 
 // The two chains that pair k gives, whose launch is late and has to be early.
-fn put_chains(
-    words: &[u32],
-    n: usize,
-    m: usize,
-    k: usize,
-    answer: &mut [u32],
-    scratch: &mut [u32],
-) -> Blocked
-    requires { Clashing words.now n m k answer.old scratch.old }
-    ensures { ChainsIn words.now n k answer.old answer.new scratch.old scratch.new result }
+fn put_chains(list: DelayList, k: usize, answer: &mut [u32], scratch: &mut [u32]) -> Blocked
+    requires { Clashing list.words.now list.registers list.pairs k answer.old scratch.old }
+    ensures { ChainsIn list.entry.words.now list.entry.registers k answer.old answer.new scratch.old scratch.new result }
 {
-    let p = delay_list::pair_at(words, k);
+    let n = list.registers;
+    let p = list.pair(k);
     let count = (scratch[p.launch as usize] as usize) - 1;
-    let b = trace(words, n, m, p.launch as usize, scratch);
+    let b = trace(list, p.launch as usize, scratch);
     let step = scratch[n + b] as usize;
-    let first = put_first(words, step, answer);
-    let path = &scratch[2 * n..2 * n + count];
-    let second = put_second(words, k, b, path, first as usize, answer);
+    let first = put_first(list.words, step, answer);
+    let second = put_second(
+        list.words,
+        k,
+        b,
+        &scratch[2 * n..2 * n + count],
+        first as usize,
+        answer,
+    );
     Blocked {
         register: b as u32,
         first,
@@ -144,35 +144,29 @@ fn put_chains(
 }
 
 // The broken choices at the offset common less period, or 0, and the registers that they force late.
-fn prepare(words: &[u32], period: u32, n: usize, m: usize, scratch: &mut [u32])
-    requires { Lent words.now n m scratch.old }
-    ensures { Ready words.now period n scratch.old scratch.new }
+fn prepare(list: DelayList, period: u32, scratch: &mut [u32])
+    requires { Lent list.words.now list.registers list.pairs scratch.old }
+    ensures { Ready list.entry.words.now period list.entry.registers scratch.old scratch.new }
 {
-    let common = free_climb::common(words, m);
+    let common = free_climb::common(list.words, list.pairs);
     let offset = common.saturating_sub(period);
-    propagate::prepare(words, period, offset, n, m, scratch);
-    forced_late::force_late(words, n, m, scratch);
+    let n = list.registers;
+    propagate::prepare(list.words, period, offset, n, list.pairs, scratch);
+    forced_late::force_late(list, scratch);
 }
 
-// What blocks the period of an accepted list with n registers and m pairs; the scratch is left zero.
-fn show(
-    words: &[u32],
-    period: u32,
-    n: usize,
-    m: usize,
-    answer: &mut [u32],
-    scratch: &mut [u32],
-) -> Option<Blocked>
-    requires { WhyAllowed words.now period n m answer.old scratch.old }
-    ensures { WhyAs words.now period answer.old answer.new scratch.old scratch.new (Ok result) }
+// What blocks the period of an accepted list; the scratch is left zero.
+fn show(list: DelayList, period: u32, answer: &mut [u32], scratch: &mut [u32]) -> Option<Blocked>
+    requires { WhyAllowed list.words.now period list.registers list.pairs answer.old scratch.old }
+    ensures { WhyAs list.entry.words.now period answer.old answer.new scratch.old scratch.new (Ok result) }
 {
-    let end = timing::scratch_places(n, m);
-    prepare(words, period, n, m, scratch);
-    let Some(k) = forced_late::clash(words, n, m, scratch) else {
+    let end = timing::scratch_places(list.registers, list.pairs);
+    prepare(list, period, scratch);
+    let Some(k) = forced_late::clash(list, scratch) else {
         buffers::clear(scratch, end);
         return None;
     };
-    let blocked = put_chains(words, n, m, k, answer, scratch);
+    let blocked = put_chains(list, k, answer, scratch);
     buffers::clear(scratch, end);
     Some(blocked)
 }
@@ -188,8 +182,7 @@ pub fn why_not(
 ) -> Result<Option<Blocked>, Refused>
     ensures { WhyAs words.now period answer.old answer.new scratch.old scratch.new result }
 {
-    let counts = delay_list::verdict(words)?;
-    call_fault(counts, period, answer.len(), scratch.len())?;
-    let n = counts.registers as usize;
-    Ok(show(words, period, n, counts.pairs as usize, answer, scratch))
+    let list = DelayList::accepted(words)?;
+    call_fault(list, period, answer.len(), scratch.len())?;
+    Ok(show(list, period, answer, scratch))
 }

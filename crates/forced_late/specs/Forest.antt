@@ -1,6 +1,7 @@
 -- The registers that are forced late, as a forest in the scratch: in the first n places the depth of each register, from 1 at a root, 0 where
 -- nothing forces it; in the next n the step that forces it; and from place 6n on whether the choice of a step is broken, 1 or 0.
-use Rattle.std.specs.Prelude.{◌≡◌, ◌⊎◌, Bool, true, false, cond, List, [], ◌∷◌, ℕ, zero, suc, ◌+◌, ◌*◌, ◌/◌, ◌%◌, ◌≤◌, ◌<◌, eqb, length, get_or, take, drop, set}
+use Rattle.std.specs.Prelude.{◌≡◌, ◌⊎◌, Bool, true, false, cond, List, [], ◌∷◌, ℕ, zero, suc}
+use Rattle.std.specs.Prelude.{◌+◌, ◌*◌, ◌/◌, ◌%◌, ◌≤◌, ◌<◌, eqb, length, get_or, take, drop, set}
 use Rattle.std.specs.Prelude.{Option, Some, None}
 use Rattle.timing.specs.declared.Pair.{Pair}
 use Rattle.timing.specs.Limits.{per_register, per_pair}

@@ -6,9 +6,11 @@
 ghost use Rattle.std.specs.Prelude.{◌≡◌, ◌*◌, ◌≤◌, ◌<◌, length, is_some};
 ghost use Rattle.timing.specs.Limits.{max_pairs};
 ghost use Rattle.propagate.specs.Store.{Lent};
-ghost use Rattle.forced_late.specs.Forest.{number_of, step_of, row_of, from_of, to_of, Marked, Growing, Grew, Grows, Along, Forces, WayForces, PairForces, AllForce};
+ghost use Rattle.forced_late.specs.Forest.{number_of, step_of, row_of, from_of, to_of, Marked, Growing};
+ghost use Rattle.forced_late.specs.Forest.{Grew, Grows, Along, Forces, WayForces, PairForces, AllForce};
 ghost use Rattle.forced_late.specs.Forest.{SettledAs, Roots, Rooted, Seeding, Blank, ForcedLate, ClashTold, ClashAt};
 
+use delay_list::DelayList;
 use pair_ends::{ENDS, Ends, FEW_ENDS, FEW_PAIRS, NONE, REGISTERS};
 use timing::{PER_PAIR, PER_REGISTER, Pair};
 
@@ -96,98 +98,84 @@ fn mark(scratch: &mut [u32], n: usize, r: usize, depth: u32, step: u32) -> bool
 }
 
 // The capture of pair k is a root if early-early is broken.
-fn seed_pair(words: &[u32], n: usize, m: usize, k: usize, scratch: &mut [u32])
-    requires { Roots words.now n m scratch.old × (k < m) }
-    ensures { Rooted words.now n k scratch.old scratch.new }
+fn seed_pair(list: DelayList, k: usize, scratch: &mut [u32])
+    requires { Roots list.words.now list.registers list.pairs scratch.old × (k < list.pairs) }
+    ensures { Rooted list.entry.words.now list.entry.registers k scratch.old scratch.new }
 {
     let step = Row::EarlyEarly.step(k);
-    if scratch[PER_REGISTER * n + step] == 1 {
-        let p = delay_list::pair_at(words, k);
-        mark(scratch, n, p.capture as usize, 1, step as u32);
+    if scratch[PER_REGISTER * list.registers + step] == 1 {
+        let p = list.pair(k);
+        mark(scratch, list.registers, p.capture as usize, 1, step as u32);
     }
 }
 
 // The roots.
-fn seed(words: &[u32], n: usize, m: usize, scratch: &mut [u32])
-    requires { Blank words.now n m scratch.old }
-    ensures { Seeding words.now n scratch.old scratch.new m }
+fn seed(list: DelayList, scratch: &mut [u32])
+    requires { Blank list.words.now list.registers list.pairs scratch.old }
+    ensures { Seeding list.entry.words.now list.entry.registers scratch.old scratch.new list.entry.pairs }
 {
-    for k in 0..m {
-        seed_pair(words, n, m, k, scratch);
+    for k in 0..list.pairs {
+        seed_pair(list, k, scratch);
     }
 }
 
 // If register `from` is late and the step is broken, register `to` across is late.
-fn force(
-    words: &[u32],
-    n: usize,
-    m: usize,
-    from: usize,
-    to: usize,
-    step: usize,
-    scratch: &mut [u32],
-) -> bool
-    requires { Growing words.now n m scratch.old × Along words.now n from to step }
-    ensures { Grows words.now n (Forces n from to step) scratch.old scratch.new result }
+fn force(list: DelayList, from: usize, to: usize, step: usize, scratch: &mut [u32]) -> bool
+    requires { Growing list.words.now list.registers list.pairs scratch.old × Along list.words.now list.registers from to step }
+    ensures { Grows list.entry.words.now list.entry.registers (Forces list.entry.registers from to step) scratch.old scratch.new result }
 {
-    if scratch[PER_REGISTER * n + step] != 1 {
+    if scratch[PER_REGISTER * list.registers + step] != 1 {
         return false;
     }
     let depth = scratch[from];
     if depth == 0 {
         return false;
     }
-    mark(scratch, n, to, depth + 1, step as u32)
+    mark(scratch, list.registers, to, depth + 1, step as u32)
 }
 
 // One way along pair k. The register across, if it was marked.
-fn follow(
-    words: &[u32],
-    n: usize,
-    m: usize,
-    k: usize,
-    way: Way,
-    scratch: &mut [u32],
-) -> Option<usize>
-    requires { Growing words.now n m scratch.old × (k < m) }
-    ensures { Grows words.now n (WayForces words.now n k way) scratch.old scratch.new (is_some result) }
+fn follow(list: DelayList, k: usize, way: Way, scratch: &mut [u32]) -> Option<usize>
+    requires { Growing list.words.now list.registers list.pairs scratch.old × (k < list.pairs) }
+    ensures { Grows list.entry.words.now list.entry.registers
+        (WayForces list.entry.words.now list.entry.registers k way) scratch.old scratch.new (is_some result) }
 {
-    let p = delay_list::pair_at(words, k);
+    let p = list.pair(k);
     let step = way.row().step(k);
     let across = way.to(p);
-    force(words, n, m, way.from(p), across, step, scratch).then_some(across)
+    force(list, way.from(p), across, step, scratch).then_some(across)
 }
 
 // Both ways along pair k; whether a register was marked.
-fn step(words: &[u32], n: usize, m: usize, k: usize, scratch: &mut [u32]) -> bool
-    requires { Growing words.now n m scratch.old × (k < m) }
-    ensures { Grows words.now n (PairForces words.now n k) scratch.old scratch.new result }
+fn step(list: DelayList, k: usize, scratch: &mut [u32]) -> bool
+    requires { Growing list.words.now list.registers list.pairs scratch.old × (k < list.pairs) }
+    ensures { Grows list.entry.words.now list.entry.registers (PairForces list.entry.words.now list.entry.registers k) scratch.old scratch.new result }
 {
-    let first = follow(words, n, m, k, Way::Ahead, scratch);
-    let second = follow(words, n, m, k, Way::Back, scratch);
+    let first = follow(list, k, Way::Ahead, scratch);
+    let second = follow(list, k, Way::Back, scratch);
     first.is_some() | second.is_some()
 }
 
 // One sweep over all pairs; whether a register was marked.
-fn sweep(words: &[u32], n: usize, m: usize, scratch: &mut [u32]) -> bool
-    requires { Growing words.now n m scratch.old }
-    ensures { Grows words.now n (AllForce words.now n) scratch.old scratch.new result }
+fn sweep(list: DelayList, scratch: &mut [u32]) -> bool
+    requires { Growing list.words.now list.registers list.pairs scratch.old }
+    ensures { Grows list.entry.words.now list.entry.registers (AllForce list.entry.words.now list.entry.registers) scratch.old scratch.new result }
 {
     let mut moved = false;
-    for k in 0..m {
-        let marked = step(words, n, m, k, scratch);
+    for k in 0..list.pairs {
+        let marked = step(list, k, scratch);
         moved = moved | marked;
     }
     moved
 }
 
 // Sweeps until nothing is marked.
-fn settle(words: &[u32], n: usize, m: usize, scratch: &mut [u32])
-    requires { Growing words.now n m scratch.old }
-    ensures { SettledAs words.now n scratch.old scratch.new }
+fn settle(list: DelayList, scratch: &mut [u32])
+    requires { Growing list.words.now list.registers list.pairs scratch.old }
+    ensures { SettledAs list.entry.words.now list.entry.registers scratch.old scratch.new }
 {
     loop {
-        if !sweep(words, n, m, scratch) {
+        if !sweep(list, scratch) {
             return;
         }
     }
@@ -236,87 +224,79 @@ fn gather(n: usize, scratch: &[u32]) -> Line
 }
 
 // Along the ends at register r.
-fn visit(
-    words: &[u32],
-    n: usize,
-    m: usize,
-    r: usize,
-    ends: Ends,
-    line: &mut Line,
-    scratch: &mut [u32],
-)
-    requires { Growing words.now n m scratch.old }
-    ensures { Grew words.now n scratch.old scratch.new }
+fn visit(list: DelayList, r: usize, ends: Ends, line: &mut Line, scratch: &mut [u32])
+    requires { Growing list.words.now list.registers list.pairs scratch.old }
+    ensures { Grew list.entry.words.now list.entry.registers scratch.old scratch.new }
 {
     for end in ends.at(r) {
         let k = usize::from(end / 2);
-        if k >= m {
+        if k >= list.pairs {
             return;
         }
         let way = if end % 2 == 0 { Way::Ahead } else { Way::Back };
-        if let Some(across) = follow(words, n, m, k, way, scratch) {
+        if let Some(across) = follow(list, k, way, scratch) {
             line.join(across);
         }
     }
 }
 
 // From the roots on.
-fn walk(words: &[u32], n: usize, m: usize, before: &mut [u16], scratch: &mut [u32])
-    requires { Growing words.now n m scratch.old }
-    ensures { Grew words.now n scratch.old scratch.new }
+fn walk(list: DelayList, before: &mut [u16], scratch: &mut [u32])
+    requires { Growing list.words.now list.registers list.pairs scratch.old }
+    ensures { Grew list.entry.words.now list.entry.registers scratch.old scratch.new }
 {
     let mut lasts = [0u16; REGISTERS];
-    let ends = pair_ends::link(words, m, &mut lasts, before);
-    let mut line = gather(n, scratch);
-    for i in 0..n {
+    let ends = pair_ends::link(list.words, list.pairs, &mut lasts, before);
+    let mut line = gather(list.registers, scratch);
+    for i in 0..list.registers {
         let Some(r) = line.at(i) else {
             return;
         };
-        visit(words, n, m, r, ends, &mut line, scratch);
+        visit(list, r, ends, &mut line, scratch);
     }
 }
 
 // The same with places for so many ends.
-fn walk_ends<const PLACES: usize>(words: &[u32], n: usize, m: usize, scratch: &mut [u32])
-    requires { (PLACES ≤ 2 * max_pairs) × Growing words.now n m scratch.old }
-    ensures { Grew words.now n scratch.old scratch.new }
+fn walk_ends<const PLACES: usize>(list: DelayList, scratch: &mut [u32])
+    requires { (PLACES ≤ 2 * max_pairs) × Growing list.words.now list.registers list.pairs scratch.old }
+    ensures { Grew list.entry.words.now list.entry.registers scratch.old scratch.new }
 {
     let mut before = [NONE; PLACES];
-    walk(words, n, m, &mut before, scratch);
+    walk(list, &mut before, scratch);
 }
 
 // The same with places for the ends of few pairs, or for those of the most.
-fn walk_list(words: &[u32], n: usize, m: usize, scratch: &mut [u32])
-    requires { Growing words.now n m scratch.old }
-    ensures { Grew words.now n scratch.old scratch.new }
+fn walk_list(list: DelayList, scratch: &mut [u32])
+    requires { Growing list.words.now list.registers list.pairs scratch.old }
+    ensures { Grew list.entry.words.now list.entry.registers scratch.old scratch.new }
 {
-    if m <= FEW_PAIRS {
-        walk_ends::<FEW_ENDS>(words, n, m, scratch);
+    if list.pairs <= FEW_PAIRS {
+        walk_ends::<FEW_ENDS>(list, scratch);
     } else {
-        walk_ends::<ENDS>(words, n, m, scratch);
+        walk_ends::<ENDS>(list, scratch);
     }
 }
 
 // All registers that are forced late.
-pub fn force_late(words: &[u32], n: usize, m: usize, scratch: &mut [u32])
-    requires { Blank words.now n m scratch.old }
-    ensures { ForcedLate words.now n scratch.old scratch.new }
+pub fn force_late(list: DelayList, scratch: &mut [u32])
+    requires { Blank list.words.now list.registers list.pairs scratch.old }
+    ensures { ForcedLate list.entry.words.now list.entry.registers scratch.old scratch.new }
 {
-    seed(words, n, m, scratch);
-    walk_list(words, n, m, scratch);
-    settle(words, n, m, scratch);
+    seed(list, scratch);
+    walk_list(list, scratch);
+    settle(list, scratch);
 }
 
 // Whether pair k asks for an early launch that is late.
-fn clashes(words: &[u32], n: usize, m: usize, k: usize, scratch: &[u32]) -> bool
-    requires { Lent words.now n m scratch.now × (k < m) }
-    ensures { ClashTold result words.now n scratch.now k }
+fn clashes(list: DelayList, k: usize, scratch: &[u32]) -> bool
+    requires { Lent list.words.now list.registers list.pairs scratch.now × (k < list.pairs) }
+    ensures { ClashTold result list.entry.words.now list.entry.registers scratch.now k }
 {
     let last = Row::LateLate.step(k);
-    if scratch[PER_REGISTER * n + last] != 1 {
+    if scratch[PER_REGISTER * list.registers + last] != 1 {
         return false;
     }
-    let p = delay_list::pair_at(words, k);
+    let p = list.pair(k);
     if scratch[p.launch as usize] == 0 {
         return false;
     }
@@ -324,12 +304,12 @@ fn clashes(words: &[u32], n: usize, m: usize, k: usize, scratch: &[u32]) -> bool
 }
 
 // The first such pair, where there is one.
-pub fn clash(words: &[u32], n: usize, m: usize, scratch: &[u32]) -> Option<usize>
-    requires { Lent words.now n m scratch.now }
-    ensures { ClashAt words.now n m scratch.now result }
+pub fn clash(list: DelayList, scratch: &[u32]) -> Option<usize>
+    requires { Lent list.words.now list.registers list.pairs scratch.now }
+    ensures { ClashAt list.entry.words.now list.entry.registers list.entry.pairs scratch.now result }
 {
-    for k in 0..m {
-        if clashes(words, n, m, k, scratch) {
+    for k in 0..list.pairs {
+        if clashes(list, k, scratch) {
             return Some(k);
         }
     }

@@ -25,7 +25,8 @@ use Rattle.relist.specs.Relist.{relisted}
 use Rattle.converter.proofs.StrungLaws.{no_pair, written-length, written-at}
 use Rattle.relist.proofs.RelistLaws.{relisted-same}
 use Rattle.merging.specs.Merge.{pooled_pairs}
-use Rattle.pooling.specs.Pool.{pooled, same_needs, both_checks, pooling, is_passed, refused_list, of_list, number_of_part, refused_part, part_of, Pooling, pool_reply, StandsFor, PooledAs}
+use Rattle.pooling.specs.Pool.{pooled, same_needs, both_checks, pooling, is_passed, refused_list, of_list}
+use Rattle.pooling.specs.Pool.{number_of_part, refused_part, part_of, Pooling, pool_reply, StandsFor, PooledAs}
 use Rattle.pooling.specs.declared.PoolPart.{PoolPart}
 use Rattle.pooling.specs.declared.PoolPart.TheVariants.{Call, First, Second}
 use Rattle.pooling.specs.declared.PoolRefused.{PoolRefused}

@@ -93,6 +93,7 @@ fn count_walked(
     let mut i = 0;
     let mut j = 0;
     let mut count = 0;
+    // A turn takes one list on, or both, so that no range counts the turns.
     while i < m && j < k {
         let p = delay_list::three_at(first, needs, i);
         let q = delay_list::three_at(second, others, j);

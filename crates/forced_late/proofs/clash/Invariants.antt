@@ -4,4 +4,4 @@ use Rattle.forced_late.specs.Forest.{Clashes}
 use Rattle.forced_late.proofs.clash.Given as goal
 
 abbrev pub invariant-loop-k : goal.invariant-loop-k
-invariant-loop-k l = (j : ℕ) → j < l.k → Clashes l.words l.n l.scratch j → ⊥
+invariant-loop-k l = (j : ℕ) → j < l.k → Clashes l.list.words.now l.list.registers l.scratch j → ⊥

@@ -5,9 +5,9 @@ use Rattle.forced_late.proofs.force.Goals as goal
 
 pub overflow_add-depth : goal.overflow_add-depth
 overflow_add-depth c =
-    search (rules, depth-few c.args.words.now c.args.n c.args.scratch.now c.requires.0 c.args.from c.requires.1.from_in)
+    search (rules, depth-few c.args.list.words.now c.args.list.registers c.args.scratch.now c.requires.0 c.args.from c.requires.1.from_in)
 
 pub returns : goal.returns
 returns c =
-    forces-marked c.args.words.now c.args.n c.args.scratch.now c.requires.0 c.requires.1 (search rules) (search rules) (search rules)
+    forces-marked c.args.list.words.now c.args.list.registers c.args.scratch.now c.requires.0 c.requires.1 (search rules) (search rules) (search rules)
     c.mark.ensures

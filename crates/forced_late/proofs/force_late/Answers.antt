@@ -4,4 +4,4 @@ use Rattle.forced_late.proofs.force_late.Goals as goal
 
 pub returns : goal.returns
 returns c =
-    forced c.args.words.now c.args.n c.requires c.seed.ensures c.walk_list.ensures c.settle.ensures
+    forced c.args.list.words.now c.args.list.registers c.requires c.seed.ensures c.walk_list.ensures c.settle.ensures

@@ -4,8 +4,8 @@ use Rattle.split_laws.specs.Marks.{unset}
 use Rattle.forced_late.specs.Forest.{Grew}
 use Rattle.forced_late.proofs.settle.Given as goal
 
-abbrev pub invariant-loop-n : goal.invariant-loop-n
-invariant-loop-n l = Grew l.words l.n l.initial.scratch l.scratch
+abbrev pub invariant-loop : goal.invariant-loop
+invariant-loop l = Grew l.list.words.now l.list.registers l.initial.scratch l.scratch
 
-abbrev pub decreases-loop-n : goal.decreases-loop-n
-decreases-loop-n l = unset (take l.n l.scratch)
+abbrev pub decreases-loop : goal.decreases-loop
+decreases-loop l = unset (take l.list.registers l.scratch)

@@ -4,4 +4,4 @@ use Rattle.forced_late.proofs.GrowLaws.{ForceTo}
 use Rattle.forced_late.proofs.sweep.Given as goal
 
 abbrev pub invariant-loop-k : goal.invariant-loop-k
-invariant-loop-k l = Grows l.words l.n (ForceTo l.words l.n l.k) l.initial.scratch l.scratch l.moved
+invariant-loop-k l = Grows l.list.words.now l.list.registers (ForceTo l.list.words.now l.list.registers l.k) l.initial.scratch l.scratch l.moved

@@ -3,4 +3,4 @@ use Rattle.forced_late.specs.Forest.{Grew}
 use Rattle.forced_late.proofs.walk.Given as goal
 
 abbrev pub invariant-loop-i : goal.invariant-loop-i
-invariant-loop-i l = Grew l.words l.n l.initial.scratch l.scratch
+invariant-loop-i l = Grew l.list.words.now l.list.registers l.initial.scratch l.scratch

@@ -41,7 +41,8 @@ pub put_pooled-requires : goal.put_pooled-requires
 put_pooled-requires c =
     let ws = c.args.first.now in
     let vs = c.args.second.now in
-    let p = both-passed ws vs (length c.args.answer.now) (sym c.both_fault-found.ensures ∙ part-passed Call c.both_fault-found.result c.of.ensures c.in_ok-of.was) in
+    let p = both-passed ws vs (length c.args.answer.now)
+    (sym c.both_fault-found.ensures ∙ part-passed Call c.both_fault-found.result c.of.ensures c.in_ok-of.was) in
     let count = c.count_pooled-count.ensures.0 in
     let needed = c.need_count-needs.ensures in (
       c.requires.0.1,
