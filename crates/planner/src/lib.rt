@@ -2,11 +2,11 @@
 // The contracts cite `specs/PlanCall.antt`, and the definitions of `free_laws`, `split_laws` and `plan_laws`.
 #![tactic(auto)]
 
-ghost use Rattle.std.specs.Prelude.{◌≡◌, Ok, length, drop};
+ghost use Rattle.std.specs.Prelude.{◌≡◌, ◌≤◌, ◌*◌, Ok, length, drop};
 ghost use Rattle.refusals.specs.Checks.{first_fault};
 ghost use Rattle.planner.specs.PlanCall.{plan_call_checks, PlanAllowed, PlanRoom, PlanIn, TwoIn, PlanAs};
 ghost use Rattle.list_format.specs.Lists.{registers, pairs, UsableList};
-ghost use Rattle.timing.specs.Limits.{scratch_places};
+ghost use Rattle.timing.specs.Limits.{scratch_places, max_pairs};
 ghost use Rattle.free_laws.specs.Free.{common as common_of, free_period};
 
 use list_format::Counts;
@@ -93,7 +93,8 @@ fn plan_within<const PLACES: usize>(
     answer: &mut [u32],
     scratch: &mut [u32],
 ) -> Planned
-    requires { PlanAllowed words.now n m (length answer.old) (length scratch.old) }
+    requires places { PLACES ≤ 2 * max_pairs }
+    requires allowed { PlanAllowed words.now n m (length answer.old) (length scratch.old) }
     ensures plan { PlanIn words.now answer.old answer.new (Ok result) }
     ensures rest { drop (scratch_places n m) scratch.new ≡ drop (scratch_places n m) scratch.old }
 {
