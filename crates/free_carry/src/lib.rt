@@ -2,7 +2,6 @@
 // The parents are a hint, kept from period to period: each rule is looked up in the list before it raises anything.
 #![tactic(auto)]
 
-ghost use Rattle.std.specs.Prelude.{◌≡◌};
 ghost use Rattle.timing.specs.Limits.{max_timing};
 ghost use Rattle.list_format.specs.Lists.{pairs};
 ghost use Rattle.free_laws.specs.Constraint.{constraints, Bound};

@@ -4,12 +4,13 @@
 #![tactic(auto)]
 
 ghost use Rattle.std.specs.Prelude.{◌≡◌, ◌-◌, ◌≤◌, ◌<◌, length};
-ghost use Rattle.list_format.specs.Lists.{pair_count, pairs, IsUsable, UsableList};
+ghost use Rattle.list_format.specs.Lists.{pairs};
 ghost use Rattle.free_laws.specs.Free.{common as common_of};
 ghost use Rattle.free_laws.specs.Constraint.{Bound};
 ghost use Rattle.free_trials.specs.Trial.{Trial, Sought};
 ghost use Rattle.free_climb.specs.Climbed.{Alone, Climbed, Ascended};
 
+use delay_list::DelayList;
 use free_rounds::NO_RULE;
 use pair_ends::{Ends, REGISTERS};
 use timing::Pair;
@@ -28,29 +29,25 @@ fn alone(p: Pair) -> u32
 }
 
 // The longest period that a pair alone asks for, or 1.
-fn lowest(words: &[u32], count: usize) -> u32
-    requires usable { IsUsable words.now }
-    requires count_value { count ≡ pair_count words.now }
+fn lowest(list: DelayList) -> u32
     ensures from { 1 ≤ result }
-    ensures bound { Bound (pairs words.now) result }
+    ensures bound { Bound (pairs list.entry.words.now) result }
 {
     let mut most = SHORTEST;
-    for k in 0..count {
-        let p = delay_list::pair_at(words, k);
+    for k in 0..list.pairs {
+        let p = list.pair(k);
         most = most.max(alone(p));
     }
     most
 }
 
 // The common period: the largest greatest delay, or 1.
-pub fn common(words: &[u32], count: usize) -> u32
-    requires usable { IsUsable words.now }
-    requires count_value { count ≡ pair_count words.now }
-    ensures { result ≡ common_of (pairs words.now) }
+pub fn common(list: DelayList) -> u32
+    ensures { result ≡ common_of (pairs list.entry.words.now) }
 {
     let mut most = SHORTEST;
-    for k in 0..count {
-        let p = delay_list::pair_at(words, k);
+    for k in 0..list.pairs {
+        let p = list.pair(k);
         most = most.max(p.greatest);
     }
     most
@@ -76,8 +73,7 @@ pub struct Manner {
 
 // One trial. Plain rounds start with no parents.
 fn attempt(
-    words: &[u32],
-    count: usize,
+    list: DelayList,
     x: &mut [u32],
     parents: &mut [u16; REGISTERS],
     ends: Ends,
@@ -85,37 +81,36 @@ fn attempt(
     kept: bool,
     period: u32,
 ) -> Option<u32>
-    requires { Trial words.now count period x.old }
-    ensures { Sought words.now period x.new result }
+    requires { Trial list.words.now list.pairs period x.old }
+    ensures { Sought list.entry.words.now period x.new result }
 {
     match rounds {
-        None => free_trials::quick(words, count, x, parents, kept, ends, period),
+        None => free_trials::quick(list, x, parents, kept, ends, period),
         Some(most) => {
             if kept {
                 parents.fill(NO_RULE);
             }
-            free_trials::plain(words, count, x, parents, most, period)
+            free_trials::plain(list, x, parents, most, period)
         }
     }
 }
 
 // Trials of longer and longer periods, as each shows the next.
 fn ascend(
-    words: &[u32],
-    count: usize,
+    list: DelayList,
     x: &mut [u32],
     parents: &mut [u16; REGISTERS],
     ends: Ends,
     manner: Manner,
     start: u32,
 ) -> Ascent
-    requires { Trial words.now count start x.old }
-    ensures { Ascended words.now x.new result }
+    requires { Trial list.words.now list.pairs start x.old }
+    ensures { Ascended list.entry.words.now x.new result }
 {
     let mut period = start;
     let mut kept = manner.kept;
     for _ in 0..manner.trials {
-        let Some(next) = attempt(words, count, x, parents, ends, manner.rounds, kept, period) else {
+        let Some(next) = attempt(list, x, parents, ends, manner.rounds, kept, period) else {
             return Ascent::Undecided(period);
         };
         if next == period {
@@ -128,13 +123,13 @@ fn ascend(
 }
 
 // Trials by rounds over all pairs, which leave nothing undecided.
-fn finish(words: &[u32], count: usize, x: &mut [u32], start: u32) -> u32
-    requires { Trial words.now count start x.old }
-    ensures { Climbed words.now x.new result }
+fn finish(list: DelayList, x: &mut [u32], start: u32) -> u32
+    requires { Trial list.words.now list.pairs start x.old }
+    ensures { Climbed list.entry.words.now x.new result }
 {
     let mut period = start;
     loop {
-        let next = free_trials::steady(words, count, x, period);
+        let next = free_trials::steady(list, x, period);
         if next == period {
             return period;
         }
@@ -147,81 +142,77 @@ const RETRIES: usize = 64;
 
 // From a period that a descent came to: trials with the parents that it left.
 fn close(
-    words: &[u32],
-    count: usize,
+    list: DelayList,
     x: &mut [u32],
     parents: &mut [u16; REGISTERS],
     ends: Ends,
     start: u32,
 ) -> u32
-    requires { Trial words.now count start x.old }
-    ensures { Climbed words.now x.new result }
+    requires { Trial list.words.now list.pairs start x.old }
+    ensures { Climbed list.entry.words.now x.new result }
 {
     let manner = Manner {
         rounds: None,
         trials: RETRIES,
         kept: true,
     };
-    match ascend(words, count, x, parents, ends, manner, start) {
+    match ascend(list, x, parents, ends, manner, start) {
         Ascent::Done(period) => period,
-        Ascent::Onward(low) | Ascent::Undecided(low) => finish(words, count, x, low),
+        Ascent::Onward(low) | Ascent::Undecided(low) => finish(list, x, low),
     }
 }
 
 // A trial of the period that a descent came to by the parents that it left; where that is not enough, others.
 fn land(
-    words: &[u32],
-    count: usize,
+    list: DelayList,
     x: &mut [u32],
     parents: &mut [u16; REGISTERS],
     ends: Ends,
     period: u32,
 ) -> u32
-    requires { Trial words.now count period x.old }
-    ensures { Climbed words.now x.new result }
+    requires { Trial list.words.now list.pairs period x.old }
+    ensures { Climbed list.entry.words.now x.new result }
 {
-    if let Some(told) = free_trials::follow(words, count, x, parents, period) {
+    if let Some(told) = free_trials::follow(list, x, parents, period) {
         if told == period {
             return period;
         }
     }
-    close(words, count, x, parents, ends, period)
+    close(list, x, parents, ends, period)
 }
 
 // The period that a descent from the common one comes to, `low` or longer.
 fn come_down(
-    words: &[u32],
-    count: usize,
+    list: DelayList,
     x: &mut [u32],
     parents: &mut [u16; REGISTERS],
     ends: Ends,
     low: u32,
 ) -> u32
-    requires { Trial words.now count low x.old }
-    ensures { Trial words.now count result x.new }
+    requires { Trial list.words.now list.pairs low x.old }
+    ensures { Trial list.entry.words.now list.entry.pairs result x.new }
 {
-    let shown = free_descent::descend(words, count, x, parents, ends, low);
+    let shown = free_descent::descend(list, x, parents, ends, low);
     low.max(shown)
 }
 
 // Trials from a period on, and a descent where they do not come to an end.
 fn climb_on(
-    words: &[u32],
-    count: usize,
+    list: DelayList,
     x: &mut [u32],
     parents: &mut [u16; REGISTERS],
     ends: Ends,
     manner: Manner,
     start: u32,
 ) -> u32
-    requires { Trial words.now count start x.old }
-    ensures { Climbed words.now x.new result }
+    requires { Trial list.words.now list.pairs start x.old }
+    ensures { Climbed list.entry.words.now x.new result }
 {
-    match ascend(words, count, x, parents, ends, manner, start) {
+    match ascend(list, x, parents, ends, manner, start) {
         Ascent::Done(period) => period,
         Ascent::Onward(low) | Ascent::Undecided(low) => {
-            let period = come_down(words, count, x, parents, ends, low);
-            land(words, count, x, parents, ends, period)
+            let period = come_down(list, x, parents, ends, low);
+            land(list, x, parents, ends, period)
         }
     }
 }
@@ -247,15 +238,14 @@ fn plain_trials(n: usize) -> usize {
 
 // A list of few pairs: plain trials; where one is left undecided, one by all means.
 fn climb_few(
-    words: &[u32],
-    count: usize,
+    list: DelayList,
     x: &mut [u32],
     parents: &mut [u16; REGISTERS],
     ends: Ends,
     start: u32,
 ) -> u32
-    requires { Trial words.now count start x.old }
-    ensures { Climbed words.now x.new result }
+    requires { Trial list.words.now list.pairs start x.old }
+    ensures { Climbed list.entry.words.now x.new result }
 {
     let plain = Manner {
         rounds: Some(plain_rounds(x.len())),
@@ -267,13 +257,13 @@ fn climb_few(
         trials: 1,
         kept: true,
     };
-    match ascend(words, count, x, parents, ends, plain, start) {
+    match ascend(list, x, parents, ends, plain, start) {
         Ascent::Done(period) => period,
         Ascent::Onward(low) => {
-            let period = come_down(words, count, x, parents, ends, low);
-            land(words, count, x, parents, ends, period)
+            let period = come_down(list, x, parents, ends, low);
+            land(list, x, parents, ends, period)
         }
-        Ascent::Undecided(period) => climb_on(words, count, x, parents, ends, once, period),
+        Ascent::Undecided(period) => climb_on(list, x, parents, ends, once, period),
     }
 }
 
@@ -281,19 +271,19 @@ fn climb_few(
 const TRIALS: usize = 4;
 
 // The free period; the free schedule fills x.
-pub fn climb(words: &[u32], count: usize, x: &mut [u32], ends: Ends) -> u32
-    requires { UsableList words.now (length x.old) count }
-    ensures { Climbed words.now x.new result }
+pub fn climb(list: DelayList, x: &mut [u32], ends: Ends) -> u32
+    requires { length x.old ≡ list.registers }
+    ensures { Climbed list.entry.words.now x.new result }
 {
     let mut parents = [NO_RULE; REGISTERS];
-    let start = lowest(words, count);
-    if count <= FEW_PAIRS {
-        return climb_few(words, count, x, &mut parents, ends, start);
+    let start = lowest(list);
+    if list.pairs <= FEW_PAIRS {
+        return climb_few(list, x, &mut parents, ends, start);
     }
     let manner = Manner {
         rounds: None,
         trials: TRIALS,
         kept: false,
     };
-    climb_on(words, count, x, &mut parents, ends, manner, start)
+    climb_on(list, x, &mut parents, ends, manner, start)
 }

@@ -18,7 +18,7 @@ use Rattle.refusals.specs.declared.Refusal.TheVariants.{Room}
 use Rattle.refusals.specs.Reply.{refused, done, reply_of, buffer_after}
 use Rattle.refusals.proofs.ReplyLaws.{one-fails, one_passes, first-refused, then-refused, then-done}
 use Rattle.list_format.specs.Lists.{registers, pairs, list_checks, verdict, accepted, IsAccepted, AcceptedList, UsableList}
-use Rattle.list_format.proofs.ListLaws.{refused→fault, accepted→none, pairs-in-range, pairs-within, few-registers, still-usable, usable-list}
+use Rattle.list_format.proofs.ListLaws.{refused→fault, accepted→none, pairs-in-range, pairs-within, few-registers, still-usable}
 use Rattle.free_laws.specs.Free.{common, free_period, free_schedule}
 use Rattle.free_laws.specs.Unbeaten.{UnbeatenFree}
 use Rattle.free_laws.proofs.FreeLaws.{common-limit, period-common, free-capped}
@@ -114,15 +114,15 @@ module _ (ws was : List ℕ) where
   list-stops e = refuses (first-refused (list_checks ws) _ _ (refused→fault ws e))
 
   -- too few places
-  pub too_small : {n count : ℕ} → AcceptedList ws n count → length was < n → FreeAs ws was was (Err (refused_at Room 0))
+  pub too_small : {n count : ℕ} → IsAccepted ws → UsableList ws n count → length was < n → FreeAs ws was was (Err (refused_at Room 0))
   unfolding freeing
-  too_small c h =
-      let small : length was < registers ws = omega (arith, c.registers_are) in
-      refuses (then-refused (list_checks ws) _ _ (accepted→none ws c.accepted).none (one-fails (lt-ltb _ _ small)))
+  too_small a l h =
+      let small : length was < registers ws = omega (arith, l.registers_are) in
+      refuses (then-refused (list_checks ws) _ _ (accepted→none ws a).none (one-fails (lt-ltb _ _ small)))
 
 -- enough places
-pub roomy : {ws was : List ℕ} {n count : ℕ} → AcceptedList ws n count → n ≤ length was → IsAccepted ws × Roomy ws n count was
-roomy {ws = ws} l h = (l.accepted, record { list = usable-list ws l; room = h })
+pub roomy : {ws was : List ℕ} {n count : ℕ} → UsableList ws n count → n ≤ length was → Roomy ws n count was
+roomy l h = record { list = l; room = h }
 
 pub list_counts : (ws : List ℕ) {n m : ℕ} → verdict ws ≡ accepted n m → AcceptedList ws n m
 list_counts ws e = (accepted→none ws e).list

@@ -4,9 +4,10 @@
 
 ghost use Rattle.std.specs.Prelude.{◌*◌, ◌≤◌, Ok};
 ghost use Rattle.timing.specs.Limits.{max_pairs};
-ghost use Rattle.list_format.specs.Lists.{IsAccepted, AcceptedList};
+ghost use Rattle.list_format.specs.Lists.{IsAccepted};
 ghost use Rattle.free_schedule.specs.FreeCall.{FreeAs, Roomy, FreeIn};
 
+use delay_list::DelayList;
 use pair_ends::{ENDS, Ends, FEW_ENDS, FEW_PAIRS, NONE, REGISTERS};
 use refusals::{Refusal, Refused, check};
 
@@ -17,43 +18,38 @@ pub struct Periods {
     pub free: u32,
 }
 
-// The free period of a usable list of n registers, with the ends of its pairs; the free schedule fills the first n places.
-pub fn fill(words: &[u32], n: usize, count: usize, ends: Ends, answer: &mut [u32]) -> u32
-    requires { Roomy words.now n count answer.old }
-    ensures { FreeIn words.now answer.old answer.new result }
+// The free period of a list, with the ends of its pairs; the free schedule fills the first places, one for each register.
+pub fn fill(list: DelayList, ends: Ends, answer: &mut [u32]) -> u32
+    requires { Roomy list.words.now list.registers list.pairs answer.old }
+    ensures { FreeIn list.entry.words.now answer.old answer.new result }
 {
-    free_climb::climb(words, count, &mut answer[..n], ends)
+    free_climb::climb(list, &mut answer[..list.registers], ends)
 }
 
-// The answer for an accepted list of n registers, with so many places for the ends of its pairs.
-fn answer_within<const PLACES: usize>(
-    words: &[u32],
-    n: usize,
-    count: usize,
-    answer: &mut [u32],
-) -> Periods
+// The answer for an accepted list, with so many places for the ends of its pairs.
+fn answer_within<const PLACES: usize>(list: DelayList, answer: &mut [u32]) -> Periods
     requires places { PLACES ≤ 2 * max_pairs }
-    requires list { IsAccepted words.now × Roomy words.now n count answer.old }
-    ensures { FreeAs words.now answer.old answer.new (Ok result) }
+    requires list { IsAccepted list.words.now × Roomy list.words.now list.registers list.pairs answer.old }
+    ensures { FreeAs list.entry.words.now answer.old answer.new (Ok result) }
 {
     let mut lasts = [0u16; REGISTERS];
     let mut before = [NONE; PLACES];
-    let ends = pair_ends::link(words, count, &mut lasts, &mut before);
-    let common = free_climb::common(words, count);
-    let free = fill(words, n, count, ends, answer);
+    let ends = pair_ends::link(list, &mut lasts, &mut before);
+    let common = free_climb::common(list);
+    let free = fill(list, ends, answer);
     Periods { common, free }
 }
 
-// The same with places for the ends of few pairs, or for those of the most; 2 for an answer buffer of fewer than n places.
-fn settle(words: &[u32], n: usize, count: usize, answer: &mut [u32]) -> Result<Periods, Refused>
-    requires { AcceptedList words.now n count }
-    ensures { FreeAs words.now answer.old answer.new result }
+// The same with places for the ends of few pairs, or for those of the most; 2 for an answer buffer of too few places.
+fn settle(list: DelayList, answer: &mut [u32]) -> Result<Periods, Refused>
+    requires { IsAccepted list.words.now }
+    ensures { FreeAs list.entry.words.now answer.old answer.new result }
 {
-    check(answer.len() < n, Refusal::Room, 0)?;
-    if count <= FEW_PAIRS {
-        return Ok(answer_within::<FEW_ENDS>(words, n, count, answer));
+    check(answer.len() < list.registers, Refusal::Room, 0)?;
+    if list.pairs <= FEW_PAIRS {
+        return Ok(answer_within::<FEW_ENDS>(list, answer));
     }
-    Ok(answer_within::<ENDS>(words, n, count, answer))
+    Ok(answer_within::<ENDS>(list, answer))
 }
 
 // Refusals 11 to 20 of the list, then 2: an answer buffer of fewer than n places. Else the common and the free period
@@ -61,7 +57,6 @@ fn settle(words: &[u32], n: usize, count: usize, answer: &mut [u32]) -> Result<P
 pub fn free(words: &[u32], answer: &mut [u32]) -> Result<Periods, Refused>
     ensures { FreeAs words.now answer.old answer.new result }
 {
-    let counts = delay_list::verdict(words)?;
-    let n = counts.registers as usize;
-    settle(words, n, counts.pairs as usize, answer)
+    let list = DelayList::accepted(words)?;
+    settle(list, answer)
 }

@@ -4,4 +4,4 @@ use Rattle.free_trials.specs.Trial.{Trial}
 use Rattle.free_climb.proofs.ascend.Given as goal
 
 abbrev pub invariant-loop : goal.invariant-loop
-invariant-loop l = Trial l.words l.count l.period l.x
+invariant-loop l = Trial l.list.words.now l.list.pairs l.period l.x

@@ -9,8 +9,8 @@ loop-k-init c = largest-start
 
 pub loop-k-preserved : goal.loop-k-preserved
 loop-k-preserved c =
-    let larger : c.max-most.result ≡ max c.loop-k.most c.pair_at-p.result.greatest = search rules in
-    largest-turn c.loop-k.invariant (omega arith) c.pair_at-p.ensures larger
+    let larger : c.max-most.result ≡ max c.loop-k.most c.pair-p.result.greatest = search rules in
+    largest-turn c.loop-k.invariant (omega arith) c.pair-p.ensures larger
 
 pub returns : goal.returns
 returns c = largest-end c.loop-k.invariant (omega arith)

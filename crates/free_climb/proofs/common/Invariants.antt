@@ -4,4 +4,4 @@ use Rattle.free_climb.proofs.ClimbLaws.{Largest}
 use Rattle.free_climb.proofs.common.Given as goal
 
 abbrev pub invariant-loop-k : goal.invariant-loop-k
-invariant-loop-k l = Largest l.words l.most l.k
+invariant-loop-k l = Largest l.list.words.now l.most l.k

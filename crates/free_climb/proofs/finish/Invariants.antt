@@ -7,7 +7,7 @@ use Rattle.free_trials.specs.Trial.{Trial}
 use Rattle.free_climb.proofs.finish.Given as goal
 
 abbrev pub invariant-loop-period : goal.invariant-loop-period
-invariant-loop-period l = Trial l.words l.count l.period l.x
+invariant-loop-period l = Trial l.list.words.now l.list.pairs l.period l.x
 
 abbrev pub decreases-loop-period : goal.decreases-loop-period
-decreases-loop-period l = common (pairs l.words) + 1 - l.period
+decreases-loop-period l = common (pairs l.list.words.now) + 1 - l.period

@@ -7,4 +7,4 @@ use Rattle.free_climb.proofs.lowest.Goals as goal
 pub loop-k-preserved : goal.loop-k-preserved
 loop-k-preserved c =
     let larger : c.max-most.result ≡ max c.loop-k.most c.alone.result = search rules in
-    most-turn c.loop-k.invariant (omega arith) c.pair_at-p.ensures c.alone.ensures larger
+    most-turn c.loop-k.invariant (omega arith) c.pair-p.ensures c.alone.ensures larger

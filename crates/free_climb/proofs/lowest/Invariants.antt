@@ -4,4 +4,4 @@ use Rattle.free_climb.proofs.ClimbLaws.{Most}
 use Rattle.free_climb.proofs.lowest.Given as goal
 
 abbrev pub invariant-loop-k : goal.invariant-loop-k
-invariant-loop-k l = Most l.words l.most l.k
+invariant-loop-k l = Most l.list.words.now l.most l.k
