@@ -5,11 +5,11 @@
 ghost use Rattle.std.specs.Prelude.{◌≡◌, ◌≤◌, ◌*◌, Ok, length, drop};
 ghost use Rattle.refusals.specs.Checks.{first_fault};
 ghost use Rattle.planner.specs.PlanCall.{plan_call_checks, PlanAllowed, PlanRoom, PlanIn, TwoIn, PlanAs};
-ghost use Rattle.list_format.specs.Lists.{registers, pairs, UsableList};
+ghost use Rattle.list_format.specs.Lists.{registers, pairs};
 ghost use Rattle.timing.specs.Limits.{scratch_places, max_pairs};
 ghost use Rattle.free_laws.specs.Free.{common as common_of, free_period};
 
-use list_format::Counts;
+use delay_list::DelayList;
 use pair_ends::{ENDS, Ends, FEW_ENDS, FEW_PAIRS, NONE, REGISTERS};
 use refusals::{Refusal, Refused, check};
 
@@ -24,37 +24,38 @@ pub struct Planned {
 
 // The caller's checks: 2 for an answer buffer of fewer than 2n places, 1 for too little scratch.
 #[tactic(auto, unfolding(refusals::specs::Checks::or_check, refusals::specs::Checks::fault_after))]
-fn call_fault(counts: Counts, room: usize, spare: usize) -> Result<(), Refused>
-    ensures { result ≡ first_fault (plan_call_checks counts.registers counts.pairs room spare) }
+fn call_fault(list: DelayList, room: usize, spare: usize) -> Result<(), Refused>
+    ensures { result ≡ first_fault (plan_call_checks list.entry.registers list.entry.pairs room spare) }
 {
-    let n = counts.registers as usize;
-    let need = timing::scratch_places(n, counts.pairs as usize);
-    check(room < 2 * n, Refusal::Room, 0)?;
+    let need = timing::scratch_places(list.registers, list.pairs);
+    check(room < 2 * list.registers, Refusal::Room, 0)?;
     check(spare < need, Refusal::Scratch, 0)
 }
 
 // The two-timing period of a usable list with that common and that free period; the split's timings fill the places lent, one for each
 // register, where the reaches stand until then. The ends of the pairs at each register are a hint.
-fn fill_split(words: &[u32], m: usize, common: u32, free: u32, ends: Ends, part: &mut [u32]) -> u32
-    requires { UsableList words.now (length part.old) m × (common ≡ common_of (pairs words.now))
-        × (free ≡ free_period (registers words.now) (pairs words.now)) }
-    ensures { TwoIn words.now part.new result }
+fn fill_split(list: DelayList, common: u32, free: u32, ends: Ends, part: &mut [u32]) -> u32
+    requires size { length part.old ≡ list.registers }
+    requires common_is { common ≡ common_of (pairs list.words.now) }
+    requires free_is { free ≡ free_period (registers list.words.now) (pairs list.words.now) }
+    ensures { TwoIn list.entry.words.now part.new result }
 {
-    let two = reach::two_period(words, m, common, free - 1, ends, part);
+    let two = reach::two_period(list, common, free - 1, ends, part);
     reach::write_split(part, two, common - two);
     two
 }
 
-// The plan of a usable list with n registers and m pairs; the ends of its pairs fill the places lent.
-fn plan_by(words: &[u32], n: usize, m: usize, before: &mut [u16], answer: &mut [u32]) -> Planned
-    requires { PlanRoom words.now n m answer.old }
-    ensures { PlanIn words.now answer.old answer.new (Ok result) }
+// The plan of a usable list; the ends of its pairs fill the places lent.
+fn plan_by(list: DelayList, before: &mut [u16], answer: &mut [u32]) -> Planned
+    requires { PlanRoom list.words.now list.registers list.pairs answer.old }
+    ensures { PlanIn list.entry.words.now answer.old answer.new (Ok result) }
 {
     let mut lasts = [0u16; REGISTERS];
-    let ends = pair_ends::link(words, m, &mut lasts, before);
-    let common = free_climb::common(words, m);
-    let free = free_schedule::fill(words, n, m, ends, answer);
-    let two = fill_split(words, m, common, free, ends, &mut answer[n..2 * n]);
+    let ends = pair_ends::link(list, &mut lasts, before);
+    let common = free_climb::common(list);
+    let free = free_schedule::fill(list, ends, answer);
+    let n = list.registers;
+    let two = fill_split(list, common, free, ends, &mut answer[n..2 * n]);
     let offset = common - two;
     Planned {
         common,
@@ -67,61 +68,65 @@ fn plan_by(words: &[u32], n: usize, m: usize, before: &mut [u16], answer: &mut [
 // The plan of an accepted list. Where it has words of needs they are counted into a copy of it first, in the scratch, which is
 // planned in its place: so a pair is taken with no look at its needs.
 fn plan_counted(
-    words: &[u32],
-    n: usize,
-    m: usize,
+    list: DelayList,
     before: &mut [u16],
     answer: &mut [u32],
     scratch: &mut [u32],
 ) -> Planned
-    requires { PlanAllowed words.now n m (length answer.old) (length scratch.old) }
-    ensures plan { PlanIn words.now answer.old answer.new (Ok result) }
-    ensures rest { drop (scratch_places n m) scratch.new ≡ drop (scratch_places n m) scratch.old }
+    requires { PlanAllowed list.words.now list.registers list.pairs (length answer.old) (length scratch.old) }
+    ensures plan { PlanIn list.entry.words.now answer.old answer.new (Ok result) }
+    ensures rest { drop (scratch_places list.entry.registers list.entry.pairs) scratch.new
+        ≡ drop (scratch_places list.entry.registers list.entry.pairs) scratch.old }
 {
-    if delay_list::need_count(words) == 0 {
-        return plan_by(words, n, m, before, answer);
+    if delay_list::need_count(list.words) == 0 {
+        return plan_by(list, before, answer);
     }
-    counted_list::count_in(words, m, scratch);
-    plan_by(scratch, n, m, before, answer)
+    counted_list::count_in(list.words, list.pairs, scratch);
+    let counted = DelayList {
+        words: scratch,
+        registers: list.registers,
+        pairs: list.pairs,
+    };
+    plan_by(counted, before, answer)
 }
 
 // The same, with so many places for the ends of the pairs.
 fn plan_within<const PLACES: usize>(
-    words: &[u32],
-    n: usize,
-    m: usize,
+    list: DelayList,
     answer: &mut [u32],
     scratch: &mut [u32],
 ) -> Planned
     requires places { PLACES ≤ 2 * max_pairs }
-    requires allowed { PlanAllowed words.now n m (length answer.old) (length scratch.old) }
-    ensures plan { PlanIn words.now answer.old answer.new (Ok result) }
-    ensures rest { drop (scratch_places n m) scratch.new ≡ drop (scratch_places n m) scratch.old }
+    requires allowed { PlanAllowed list.words.now list.registers list.pairs (length answer.old) (length scratch.old) }
+    ensures plan { PlanIn list.entry.words.now answer.old answer.new (Ok result) }
+    ensures rest { drop (scratch_places list.entry.registers list.entry.pairs) scratch.new
+        ≡ drop (scratch_places list.entry.registers list.entry.pairs) scratch.old }
 {
     let mut before = [NONE; PLACES];
-    plan_counted(words, n, m, &mut before, answer, scratch)
+    plan_counted(list, &mut before, answer, scratch)
 }
 
 // The same, with places for the ends of few pairs, or for those of the most.
-fn plan_list(words: &[u32], n: usize, m: usize, answer: &mut [u32], scratch: &mut [u32]) -> Planned
-    requires { PlanAllowed words.now n m (length answer.old) (length scratch.old) }
-    ensures plan { PlanIn words.now answer.old answer.new (Ok result) }
-    ensures rest { drop (scratch_places n m) scratch.new ≡ drop (scratch_places n m) scratch.old }
+fn plan_list(list: DelayList, answer: &mut [u32], scratch: &mut [u32]) -> Planned
+    requires { PlanAllowed list.words.now list.registers list.pairs (length answer.old) (length scratch.old) }
+    ensures plan { PlanIn list.entry.words.now answer.old answer.new (Ok result) }
+    ensures rest { drop (scratch_places list.entry.registers list.entry.pairs) scratch.new
+        ≡ drop (scratch_places list.entry.registers list.entry.pairs) scratch.old }
 {
-    if m <= FEW_PAIRS {
-        plan_within::<FEW_ENDS>(words, n, m, answer, scratch)
+    if list.pairs <= FEW_PAIRS {
+        plan_within::<FEW_ENDS>(list, answer, scratch)
     } else {
-        plan_within::<ENDS>(words, n, m, answer, scratch)
+        plan_within::<ENDS>(list, answer, scratch)
     }
 }
 
 // The same, and the scratch is left zero.
-fn show(words: &[u32], n: usize, m: usize, answer: &mut [u32], scratch: &mut [u32]) -> Planned
-    requires { PlanAllowed words.now n m (length answer.old) (length scratch.old) }
-    ensures { PlanAs words.now answer.old answer.new scratch.old scratch.new (Ok result) }
+fn show(list: DelayList, answer: &mut [u32], scratch: &mut [u32]) -> Planned
+    requires { PlanAllowed list.words.now list.registers list.pairs (length answer.old) (length scratch.old) }
+    ensures { PlanAs list.entry.words.now answer.old answer.new scratch.old scratch.new (Ok result) }
 {
-    let planned = plan_list(words, n, m, answer, scratch);
-    buffers::clear(scratch, timing::scratch_places(n, m));
+    let planned = plan_list(list, answer, scratch);
+    buffers::clear(scratch, timing::scratch_places(list.registers, list.pairs));
     planned
 }
 
@@ -131,9 +136,7 @@ fn show(words: &[u32], n: usize, m: usize, answer: &mut [u32], scratch: &mut [u3
 pub fn plan(words: &[u32], answer: &mut [u32], scratch: &mut [u32]) -> Result<Planned, Refused>
     ensures { PlanAs words.now answer.old answer.new scratch.old scratch.new result }
 {
-    let counts = delay_list::verdict(words)?;
-    call_fault(counts, answer.len(), scratch.len())?;
-    let n = counts.registers as usize;
-    let m = counts.pairs as usize;
-    Ok(show(words, n, m, answer, scratch))
+    let list = DelayList::accepted(words)?;
+    call_fault(list, answer.len(), scratch.len())?;
+    Ok(show(list, answer, scratch))
 }

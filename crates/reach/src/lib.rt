@@ -4,13 +4,14 @@
 #![tactic(auto)]
 
 ghost use Rattle.std.specs.Prelude.{◌≡◌, ◌||◌, ◌+◌, ◌<◌, max, min, ltb, length};
-ghost use Rattle.list_format.specs.Lists.{pairs, UsableList};
+ghost use Rattle.list_format.specs.Lists.{pairs};
 ghost use Rattle.free_laws.specs.Free.{common};
 ghost use Rattle.free_laws.specs.Constraint.{Bound};
 ghost use Rattle.split_laws.specs.Split.{time_of, timings};
 ghost use Rattle.plan_laws.specs.Reach.{reach_of, ahead, behind, reach_period, late_above, NoneBelow, Raised, ReachStep};
 ghost use Rattle.reach.specs.Settling.{PairReaching, Reaching, Guided, ClosedAt, ClosedAll, Swept, Reached};
 
+use delay_list::DelayList;
 use pair_ends::Ends;
 use register_heap::Heap;
 use timing::Pair;
@@ -61,21 +62,20 @@ struct Along {
     asks: u32,
 }
 
-// A usable list with its count of pairs and its common period.
+// A list with its common period.
 #[derive(Clone, Copy)]
 struct Listed<'a> {
-    words: &'a [u32],
-    count: usize,
+    list: DelayList<'a>,
     top: u32,
 }
 
 impl<'a> Listed<'a> {
     // Both ends of pair k; whether one was raised.
     fn step(self, k: usize, reach: &mut [u32]) -> bool
-        requires { Reaching self.words.now self.count self.top reach.old × (k < self.count) }
-        ensures { ReachStep self.entry.top (pairs self.entry.words.now) (ClosedAt self.entry.words.now self.entry.top k) reach.old reach.new result }
+        requires { Reaching self.list.words.now self.list.pairs self.top reach.old × (k < self.list.pairs) }
+        ensures { ReachStep self.entry.top (pairs self.entry.list.words.now) (ClosedAt self.entry.list.words.now self.entry.top k) reach.old reach.new result }
     {
-        let p = delay_list::pair_at(self.words, k);
+        let p = self.list.pair(k);
         let first = raise_capture(p, self.top, reach);
         let second = raise_launch(p, self.top, reach);
         first | second
@@ -83,12 +83,12 @@ impl<'a> Listed<'a> {
 
     // One sweep, up or down the list; whether it raised anything.
     fn sweep(self, down: bool, reach: &mut [u32]) -> bool
-        requires { Reaching self.words.now self.count self.top reach.old }
-        ensures { ReachStep self.entry.top (pairs self.entry.words.now) (ClosedAll self.entry.words.now self.entry.top) reach.old reach.new result }
+        requires { Reaching self.list.words.now self.list.pairs self.top reach.old }
+        ensures { ReachStep self.entry.top (pairs self.entry.list.words.now) (ClosedAll self.entry.list.words.now self.entry.top) reach.old reach.new result }
     {
         let mut moved = false;
-        for i in 0..self.count {
-            let k = delay_list::place(self.count, i, down);
+        for i in 0..self.list.pairs {
+            let k = delay_list::place(self.list.pairs, i, down);
             let o = self.step(k, reach);
             moved |= o;
         }
@@ -97,8 +97,8 @@ impl<'a> Listed<'a> {
 
     // Sweeps up and down the list until nothing is raised.
     fn settle(self, reach: &mut [u32])
-        requires { Reaching self.words.now self.count self.top reach.old }
-        ensures { Swept self.entry.words.now self.entry.count self.entry.top reach.new }
+        requires { Reaching self.list.words.now self.list.pairs self.top reach.old }
+        ensures { Swept self.entry.list.words.now self.entry.list.pairs self.entry.top reach.new }
     {
         let mut down = false;
         while self.sweep(down, reach) {
@@ -108,12 +108,12 @@ impl<'a> Listed<'a> {
 
     // The longest period that a pair asks for, or 1.
     fn period(self, reach: &[u32]) -> u32
-        requires { UsableList self.words.now (length reach.now) self.count }
-        ensures { result ≡ reach_period 1 (pairs self.entry.words.now) reach.now }
+        requires { length reach.now ≡ self.list.registers }
+        ensures { result ≡ reach_period 1 (pairs self.entry.list.words.now) reach.now }
     {
         let mut most = 1;
-        for k in 0..self.count {
-            let p = delay_list::pair_at(self.words, k);
+        for k in 0..self.list.pairs {
+            let p = self.list.pair(k);
             most = most.max(asked(p, reach));
         }
         most
@@ -121,8 +121,8 @@ impl<'a> Listed<'a> {
 
     // Every register has at least the reach v, below which no split works.
     fn lift(self, v: u32, reach: &mut [u32])
-        requires { Reaching self.words.now self.count self.top reach.old × NoneBelow self.top (pairs self.words.now) v }
-        ensures { Reaching self.entry.words.now self.entry.count self.entry.top reach.new }
+        requires { Reaching self.list.words.now self.list.pairs self.top reach.old × NoneBelow self.top (pairs self.list.words.now) v }
+        ensures { Reaching self.entry.list.words.now self.entry.list.pairs self.entry.top reach.new }
     {
         for r in 0..reach.len() {
             raise(reach, r, v);
@@ -131,10 +131,10 @@ impl<'a> Listed<'a> {
 
     // From an end of pair k the register at the other end is raised.
     fn cross(self, k: usize, launch: bool, reach: &mut [u32]) -> Along
-        requires { Reaching self.words.now self.count self.top reach.old × (k < self.count) }
-        ensures { Guided self.entry.words.now self.entry.count self.entry.top reach.new result.asks }
+        requires { Reaching self.list.words.now self.list.pairs self.top reach.old × (k < self.list.pairs) }
+        ensures { Guided self.entry.list.words.now self.entry.list.pairs self.entry.top reach.new result.asks }
     {
-        let p = delay_list::pair_at(self.words, k);
+        let p = self.list.pair(k);
         if launch {
             let raised = raise_capture(p, self.top, reach);
             let asks = asked(p, reach);
@@ -152,11 +152,11 @@ impl<'a> Listed<'a> {
 
     // Every capture is raised; the longest period that a pair was seen to ask for.
     fn begin(self, reach: &mut [u32]) -> u32
-        requires { Reaching self.words.now self.count self.top reach.old }
-        ensures { Guided self.entry.words.now self.entry.count self.entry.top reach.new result }
+        requires { Reaching self.list.words.now self.list.pairs self.top reach.old }
+        ensures { Guided self.entry.list.words.now self.entry.list.pairs self.entry.top reach.new result }
     {
         let mut most = 0;
-        for k in 0..self.count {
+        for k in 0..self.list.pairs {
             let a = self.cross(k, true, reach);
             most = most.max(a.asks);
         }
@@ -204,16 +204,16 @@ impl Waiting {
     }
 
     // Along the ends at register r, from each to the register across.
-    fn visit(&mut self, list: Listed, ends: Ends, r: usize, reach: &mut [u32])
-        requires { Guided list.words.now list.count list.top reach.old self.old.most }
-        ensures { Guided list.entry.words.now list.entry.count list.entry.top reach.new self.new.most }
+    fn visit(&mut self, listed: Listed, ends: Ends, r: usize, reach: &mut [u32])
+        requires { Guided listed.list.words.now listed.list.pairs listed.top reach.old self.old.most }
+        ensures { Guided listed.entry.list.words.now listed.entry.list.pairs listed.entry.top reach.new self.new.most }
     {
         for end in ends.at(r) {
             let k = usize::from(end) / 2;
-            if k >= list.count {
+            if k >= listed.list.pairs {
                 return;
             }
-            let a = list.cross(k, end % 2 == 0, reach);
+            let a = listed.cross(k, end % 2 == 0, reach);
             self.enter(a, reach);
         }
     }
@@ -228,16 +228,16 @@ impl Waiting {
     }
 
     // Registers are taken from the heap and visited, each once: no raise is to above the reach of the one that was taken.
-    fn follow(&mut self, list: Listed, ends: Ends, reach: &mut [u32])
-        requires { Guided list.words.now list.count list.top reach.old self.old.most }
-        ensures { Guided list.entry.words.now list.entry.count list.entry.top reach.new self.new.most }
+    fn follow(&mut self, listed: Listed, ends: Ends, reach: &mut [u32])
+        requires { Guided listed.list.words.now listed.list.pairs listed.top reach.old self.old.most }
+        ensures { Guided listed.entry.list.words.now listed.entry.list.pairs listed.entry.top reach.new self.new.most }
     {
         for _ in 0..reach.len() {
             let Some(r) = self.largest(reach) else {
                 return;
             };
             self.heap.remove(reach, r);
-            self.visit(list, ends, r, reach);
+            self.visit(listed, ends, r, reach);
         }
     }
 }
@@ -246,42 +246,37 @@ impl Waiting {
 const SPARSE: usize = 8;
 
 // The heap from its filling until nothing in it is above the period seen; none where pairs are few.
-fn guide(list: Listed, ends: Ends, reach: &mut [u32]) -> u32
-    requires { Reaching list.words.now list.count list.top reach.old }
-    ensures { Guided list.entry.words.now list.entry.count list.entry.top reach.new result }
+fn guide(listed: Listed, ends: Ends, reach: &mut [u32]) -> u32
+    requires { Reaching listed.list.words.now listed.list.pairs listed.top reach.old }
+    ensures { Guided listed.entry.list.words.now listed.entry.list.pairs listed.entry.top reach.new result }
 {
-    if list.count <= reach.len() / SPARSE {
+    if listed.list.pairs <= reach.len() / SPARSE {
         return 0;
     }
     let mut waiting = Waiting {
-        most: list.begin(reach),
+        most: listed.begin(reach),
         heap: Heap::empty(),
     };
     waiting.gather(reach);
-    waiting.follow(list, ends, reach);
+    waiting.follow(listed, ends, reach);
     waiting.most
 }
 
 // The two-timing period of a usable list with the common period `top` and a free period above `floor`; the reaches are left
 // in the n places lent. The ends of the pairs are a hint.
-pub fn two_period(
-    words: &[u32],
-    count: usize,
-    top: u32,
-    floor: u32,
-    ends: Ends,
-    reach: &mut [u32],
-) -> u32
-    requires { UsableList words.now (length reach.old) count × (top ≡ common (pairs words.now)) × Bound (pairs words.now) (floor + 1) }
-    ensures { Reached words.now reach.new result }
+pub fn two_period(list: DelayList, top: u32, floor: u32, ends: Ends, reach: &mut [u32]) -> u32
+    requires size { length reach.old ≡ list.registers }
+    requires top_is { top ≡ common (pairs list.words.now) }
+    requires below { Bound (pairs list.words.now) (floor + 1) }
+    ensures { Reached list.entry.words.now reach.new result }
 {
     let n = reach.len();
     buffers::level(reach, n, floor);
-    let list = Listed { words, count, top };
-    let most = guide(list, ends, reach);
-    list.lift(most, reach);
-    list.settle(reach);
-    list.period(reach)
+    let listed = Listed { list, top };
+    let most = guide(listed, ends, reach);
+    listed.lift(most, reach);
+    listed.settle(reach);
+    listed.period(reach)
 }
 
 // The offset where the reach is above the period, else 0.

@@ -4,7 +4,7 @@ use Rattle.planner.proofs.plan_by.Goals as goal
 
 pub overflow_sub-offset : goal.overflow_sub-offset
 overflow_sub-offset c =
-    two_fits c.args.words.now c.common-common.ensures c.fill_split-two.ensures.period
+    two_fits c.args.list.words.now c.common-common.ensures c.fill_split-two.ensures.period
 
 pub returns : goal.returns
 returns c =

@@ -3,6 +3,11 @@ use mathlib.Core.Path.{refl}
 use Rattle.planner.proofs.PlanCallLaws.{counted-room, counted-plan, counted-rest}
 use Rattle.planner.proofs.plan_counted.Goals as goal
 
+pub invariant_of-counted : goal.invariant_of-counted
+invariant_of-counted c =
+    let room = counted-room c.requires c.args.scratch.now refl c.count_in.ensures {answer = c.args.answer.now} refl in
+    record { usable = room.list }
+
 pub plan_by-requires-2 : goal.plan_by-requires-2
 plan_by-requires-2 c =
     counted-room c.requires c.args.scratch.now refl c.count_in.ensures refl

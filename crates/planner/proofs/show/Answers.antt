@@ -4,7 +4,7 @@ use Rattle.planner.proofs.show.Goals as goal
 
 pub returns : goal.returns
 returns c =
-    let ws = c.args.words.now in
+    let ws = c.args.list.words.now in
     let answer = c.args.answer.now in
     let scratch = c.args.scratch.now in
     let cleared = rw c.scratch_places.ensures at c.clear.ensures in

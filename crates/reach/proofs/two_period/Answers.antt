@@ -5,7 +5,7 @@ use Rattle.reach.proofs.two_period.Goals as goal
 
 pub guide-most-requires : goal.guide-most-requires
 guide-most-requires c =
-    reaching-start c.args.floor c.args.reach.now c.requires.0 c.requires.1 c.requires.2 c.level.ensures
+    reaching-start c.args.floor c.args.reach.now (rw (← c.requires.size) at c.args.list.usable) c.requires.top_is c.requires.below c.level.ensures
 
 pub returns : goal.returns
 returns c = reached c.settle.ensures c.period.ensures

@@ -10,8 +10,8 @@ loop-k-init c = asked-start
 
 pub loop-k-preserved : goal.loop-k-preserved
 loop-k-preserved c =
-    asked-turn c.loop-k.invariant (omega (arith, c.requires.pairs_are)) c.pair_at-p.ensures
+    asked-turn c.loop-k.invariant (omega (arith, c.args.self.list.usable.pairs_are)) c.pair-p.ensures
     c.asked.ensures (search rules)
 
 pub returns : goal.returns
-returns c = asked-end c.loop-k.invariant (omega (arith, c.requires.pairs_are))
+returns c = asked-end c.loop-k.invariant (omega (arith, c.args.self.list.usable.pairs_are))

@@ -4,4 +4,4 @@ use Rattle.reach.proofs.SweepLaws.{Asked}
 use Rattle.reach.proofs.Listed.period.Given as goal
 
 abbrev pub invariant-loop-k : goal.invariant-loop-k
-invariant-loop-k l = Asked l.self.words.now l.reach l.most l.k
+invariant-loop-k l = Asked l.self.list.words.now l.reach l.most l.k

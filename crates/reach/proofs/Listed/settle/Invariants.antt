@@ -5,7 +5,7 @@ use Rattle.reach.specs.Settling.{Reaching}
 use Rattle.reach.proofs.Listed.settle.Given as goal
 
 abbrev pub invariant-loop-down : goal.invariant-loop-down
-invariant-loop-down l = Reaching l.self.words.now l.self.count l.self.top l.reach
+invariant-loop-down l = Reaching l.self.list.words.now l.self.list.pairs l.self.top l.reach
 
 abbrev pub decreases-loop-down : goal.decreases-loop-down
 decreases-loop-down l = room l.self.top l.reach

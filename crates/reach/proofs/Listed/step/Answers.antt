@@ -6,13 +6,13 @@ use Rattle.reach.proofs.Listed.step.Goals as goal
 
 pub raise_capture-first-requires : goal.raise_capture-first-requires
 raise_capture-first-requires c =
-    pair-raisable c.requires.0 c.pair_at-p.ensures (omega (arith, c.requires.0.list.pairs_are))
+    pair-raisable c.requires.0 c.pair-p.ensures (omega (arith, c.requires.0.list.pairs_are))
 
 pub raise_launch-second-requires : goal.raise_launch-second-requires
 raise_launch-second-requires c =
-    raisable-kept (pair-raisable c.requires.0 c.pair_at-p.ensures (omega (arith, c.requires.0.list.pairs_are))) c.raise_capture-first.auto.reach
+    raisable-kept (pair-raisable c.requires.0 c.pair-p.ensures (omega (arith, c.requires.0.list.pairs_are))) c.raise_capture-first.auto.reach
 
 pub returns : goal.returns
 returns c =
-    pair-stepped c.requires.0 c.pair_at-p.ensures (omega (arith, c.requires.0.list.pairs_are)) c.raise_capture-first.ensures
+    pair-stepped c.requires.0 c.pair-p.ensures (omega (arith, c.requires.0.list.pairs_are)) c.raise_capture-first.ensures
     c.raise_launch-second.ensures refl

@@ -4,4 +4,4 @@ use Rattle.reach.proofs.SweepLaws.{Sweeping}
 use Rattle.reach.proofs.Listed.sweep.Given as goal
 
 abbrev pub invariant-loop-i : goal.invariant-loop-i
-invariant-loop-i l = Sweeping l.self.words.now l.self.count l.self.top l.down l.initial.reach l.reach l.moved l.i
+invariant-loop-i l = Sweeping l.self.list.words.now l.self.list.pairs l.self.top l.down l.initial.reach l.reach l.moved l.i

@@ -4,4 +4,4 @@ use Rattle.reach.specs.Settling.{Guided}
 use Rattle.reach.proofs.Waiting.follow.Given as goal
 
 abbrev pub invariant-loop : goal.invariant-loop
-invariant-loop l = Guided l.list.words.now l.list.count l.list.top l.reach l.self.most
+invariant-loop l = Guided l.listed.list.words.now l.listed.list.pairs l.listed.top l.reach l.self.most

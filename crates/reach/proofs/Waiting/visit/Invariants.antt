@@ -4,4 +4,4 @@ use Rattle.reach.specs.Settling.{Guided}
 use Rattle.reach.proofs.Waiting.visit.Given as goal
 
 abbrev pub invariant-loop-end : goal.invariant-loop-end
-invariant-loop-end l = Guided l.list.words.now l.list.count l.list.top l.reach l.self.most
+invariant-loop-end l = Guided l.listed.list.words.now l.listed.list.pairs l.listed.top l.reach l.self.most
