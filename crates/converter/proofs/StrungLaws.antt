@@ -78,7 +78,8 @@ module _ (ps : List Pair) where
   pub threes-is : run (λ k. three_of (given_pair (strung four_of ps) k)) (given_count (strung four_of ps)) ≡ strung three_of ps
   threes-is =
       ap (run (λ k. three_of (given_pair (strung four_of ps) k))) four-count
-      ∙ run-same (λ k. three_of (given_pair (strung four_of ps) k)) (λ k. three_of (get_or ps k no_pair)) (length ps) (λ k h. ap three_of (four-pair no_pair k h))
+      ∙ run-same (λ k. three_of (given_pair (strung four_of ps) k)) (λ k. three_of (get_or ps k no_pair)) (length ps)
+      (λ k h. ap three_of (four-pair no_pair k h))
       ∙ sym (strung-run three_of no_pair ps)
 
 -- ---- the pairs of a list as they are written
@@ -123,4 +124,5 @@ module _ (ws : List ℕ) where
   written-numbers =
       strung-run four_of no_pair (written_pairs ws)
       ∙ ap (run (λ k. four_of (get_or (written_pairs ws) k no_pair))) written-length
-      ∙ run-same (λ k. four_of (get_or (written_pairs ws) k no_pair)) (λ k. four_of (written_at ws k)) (pair_count ws) (λ k h. ap four_of (written-at no_pair k h))
+      ∙ run-same (λ k. four_of (get_or (written_pairs ws) k no_pair)) (λ k. four_of (written_at ws k)) (pair_count ws)
+      (λ k h. ap four_of (written-at no_pair k h))

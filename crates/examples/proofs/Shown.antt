@@ -20,7 +20,8 @@ use Rattle.examples.specs.Examples.{computed, numbers_of_pairs, list_for, called
 
 pub examples-shown : (map computed table ≡ table) × (map called table ≡ map answers table)
 unfolding computed numbers_of_pairs list_for called tried answers table
-    admissible first_from least run total or_check fault_after each_check unless need_words_by hold_at setup_at pair_at pairs_from no_needs given_needs writing_by
+    admissible first_from least run total or_check fault_after each_check unless
+    need_words_by hold_at setup_at pair_at pairs_from no_needs given_needs writing_by
     not_above insert ordered written_from strung converting
     relax round rounds free_at free_works common free_period free_schedule works splits first_of first_split
     split_works two_works two_period two_offset two_split two_timings split_outcome splitting planning

@@ -6,6 +6,7 @@ use mathlib.Core.Path.{◌≡◌, refl, sym, ◌∙◌, ap, subst}
 use native.Mathlib.Omega.{arith}
 use lib.ListN.{length, get_or, take, drop}
 use lib.Seq.{take_at}
+use denote.Ref.{Bor}
 use borrow.Author.Tests.{ltb-false, le-ltb, not-false}
 use Rattle.timing.specs.Limits.{max_pairs}
 use Rattle.ordering.specs.Order.{Ascends}
@@ -200,3 +201,8 @@ pool-turned ws vs a b room p =
       fits = subst (λ (xs : List ℕ). length xs ≤ room) (sym kept) p.fits;
     } in
     pooling-done vs ws room v u passes ∙ ap (λ (xs : List ℕ). done (length xs ∷ []) xs) kept ∙ sym (pooling-done ws vs room u v p)
+
+-- what is promised of two lists is promised where they are lent anew
+pub pooled-lent : {s s' t t' : Bor (List ℕ)} {was now : List ℕ} {r : Pooling} → s ≡ s' → t ≡ t' → PooledAs s.now t.now was now r
+    → PooledAs s'.now t'.now was now r
+pooled-lent e f h = rw (e, f) at h

@@ -11,10 +11,8 @@ use borrow.Author.Tests.{ltb-true}
 use Rattle.timing.specs.declared.Pair.{Pair}
 use Rattle.timing.specs.Limits.{max_pairs}
 use Rattle.ordering.specs.Order.{ordered}
-use Rattle.words.specs.Word.{register_bits}
-use Rattle.list_format.specs.Lists.{pair_count, need_words, written_at, PairIn, IsWritten}
+use Rattle.list_format.specs.Lists.{pair_count, written_at, PairIn, IsWritten}
 use Rattle.list_format.proofs.ListLaws.{accepted-in, accepted-usable}
-use Rattle.list_format.proofs.NeedsLaws.{needs-few}
 use Rattle.converter.specs.Convert.{written_from}
 use Rattle.merging.specs.Merge.{pooled_pairs, met_pairs}
 use Rattle.merging.specs.Turn.{lower_of, place_past}
@@ -54,15 +52,14 @@ module _ (ws vs : List ℕ) (u : Walkable ws) (v : Walkable vs) where
     counting-end end = omega (arith, h.count_is, finished-count ws vs u v (record { walked = h.walked; end = end }))
 
 -- a pair of an accepted list can be taken
-pub listed-pair : {ws : List ℕ} {needs m i : ℕ} → Listed ws needs m → i < m → (needs ≡ need_words ws) × ((needs < 2 ^ register_bits) × PairIn ws i)
-listed-pair {ws} l h =
-    (l.needs_are, (omega (arith, l.needs_are, needs-few ws), record { usable = accepted-usable ws l.accepted; below = omega (arith, h, l.pairs_are) }))
+pub listed-pair : {ws : List ℕ} {m i : ℕ} → Listed ws m → i < m → PairIn ws i
+listed-pair {ws} l h = record { usable = accepted-usable ws l.accepted; below = omega (arith, h, l.pairs_are) }
 
-pub listed-few : {ws : List ℕ} {needs m : ℕ} → Listed ws needs m → m ≤ max_pairs
+pub listed-few : {ws : List ℕ} {m : ℕ} → Listed ws m → m ≤ max_pairs
 listed-few {ws} l = omega (arith, l.pairs_are, (accepted-in ws l.accepted).head.few)
 
 -- a turn of the loop, by its two tests, the pairs that it takes and the places that it goes on to
-pub counted-turn : {ws vs : List ℕ} {needs m others k i j count : ℕ} → Listed ws needs m → Listed vs others k → Counting ws vs i j count → i < m
+pub counted-turn : {ws vs : List ℕ} {m k i j count : ℕ} → Listed ws m → Listed vs k → Counting ws vs i j count → i < m
     → ltb j k ≡ true → {p q : Pair} {i' j' : ℕ} → IsWritten ws i p → IsWritten vs j q → i' ≡ place_past i p q → j' ≡ place_past j q p
     → Counting ws vs i' j' (count + 1) × (m - i' + (k - j') < m - i + (k - j))
 counted-turn {ws} {vs} {k = k} {j = j} l r h a b p q d e =
@@ -72,7 +69,7 @@ counted-turn {ws} {vs} {k = k} {j = j} l r h a b p q d e =
     (t.0, rw (l.pairs_are, r.pairs_are) t.1)
 
 -- the end: one of the tests failed
-pub counted-end : {ws vs : List ℕ} {needs m others k i j count : ℕ} → Listed ws needs m → Listed vs others k → Counting ws vs i j count
+pub counted-end : {ws vs : List ℕ} {m k i j count : ℕ} → Listed ws m → Listed vs k → Counting ws vs i j count
     → (m ≤ i) ⊎ (k ≤ j) → (count + (m - i) + (k - j) ≡ length (pooled_pairs ws vs)) × (count + (m - i) + (k - j) ≤ m + k)
 counted-end {ws} {vs} {m = m} {k = k} {i} {j} {count} l r h end =
     let e : count + (m - i) + (k - j) ≡ length (pooled_pairs ws vs) =
@@ -87,7 +84,7 @@ pub record Bounded (m k i j count : ℕ) : Type 0 where
   pub few : count ≤ m + k
   pub small : m + k < 2 ^ 32
 
-pub counted-bound : {ws vs : List ℕ} {needs m others k i j count : ℕ} → Listed ws needs m → Listed vs others k → Counting ws vs i j count
+pub counted-bound : {ws vs : List ℕ} {m k i j count : ℕ} → Listed ws m → Listed vs k → Counting ws vs i j count
     → Bounded m k i j count
 counted-bound l r h =
     let left = h.walked.left.bound in

@@ -108,10 +108,9 @@ pub record PooledAs (ws vs was now : List ℕ) (r : Pooling) : Type 0 where
 
 -- ---- what the steps ask for
 
--- an accepted list with so many words of needs and pairs
-pub record Listed (ws : List ℕ) (needs m : ℕ) : Type 0 where
+-- an accepted list with so many pairs
+pub record Listed (ws : List ℕ) (m : ℕ) : Type 0 where
   pub accepted : IsAccepted ws
-  pub needs_are : needs ≡ need_words ws
   pub pairs_are : m ≡ pair_count ws
 
 -- two accepted lists of n and `other` registers, with so many pooled pairs, and the places that the pooled list takes

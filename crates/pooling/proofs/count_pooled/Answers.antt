@@ -11,7 +11,7 @@ returns c = (
     c.count_walked.ensures.1,
     c.pair_count-m.ensures,
     c.pair_count-k.ensures,
-    (accepted-in c.args.first.now c.requires.0).head.few,
-    (accepted-in c.args.second.now c.requires.1).head.few,
+    (accepted-in c.args.first.words.now c.requires.0).head.few,
+    (accepted-in c.args.second.words.now c.requires.1).head.few,
   ),
 )

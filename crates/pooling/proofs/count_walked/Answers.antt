@@ -8,23 +8,23 @@ use Rattle.pooling.proofs.count_walked.Goals.{then-loop-i-test+else-j-k, else-lo
 
 pub loop-i-init : goal.loop-i-init
 loop-i-init c =
-    counting-start c.args.first.now c.args.second.now (accepted-walkable _ c.requires.0.accepted) (accepted-walkable _ c.requires.1.accepted)
+    counting-start c.args.first.words.now c.args.second.words.now (accepted-walkable _ c.requires.0.accepted) (accepted-walkable _ c.requires.1.accepted)
 
-pub three_at-p-requires : goal.three_at-p-requires
-three_at-p-requires c = listed-pair c.requires.0 c.loop-i-test.true
+pub written-p-requires : goal.written-p-requires
+written-p-requires c = listed-pair c.requires.0 c.loop-i-test.true
 
-pub three_at-q-requires : goal.three_at-q-requires
-three_at-q-requires c = listed-pair c.requires.1 c.if-j-k.true
+pub written-q-requires : goal.written-q-requires
+written-q-requires c = listed-pair c.requires.1 c.if-j-k.true
 
 pub loop-i-smaller : goal.loop-i-smaller
 loop-i-smaller c =
     (counted-turn c.requires.0 c.requires.1 c.loop-i.invariant c.loop-i-test.true (lt-ltb _ _ c.if-j-k.true)
-    c.three_at-p.ensures c.three_at-q.ensures c.past-i.ensures c.past-j.ensures).1
+    c.written-p.ensures c.written-q.ensures c.past-i.ensures c.past-j.ensures).1
 
 pub loop-i-preserved : goal.loop-i-preserved
 loop-i-preserved c =
     (counted-turn c.requires.0 c.requires.1 c.loop-i.invariant c.loop-i-test.true (lt-ltb _ _ c.if-j-k.true)
-    c.three_at-p.ensures c.three_at-q.ensures c.past-i.ensures c.past-j.ensures).0
+    c.written-p.ensures c.written-q.ensures c.past-i.ensures c.past-j.ensures).0
 
 pub returns : goal.returns
 returns c =
