@@ -9,8 +9,8 @@ use lib.ListN.{length, get_or, take, drop, length-append, length-drop}
 use Rattle.timing.specs.Limits.{per_pair, max_registers, max_pairs}
 use Rattle.buffers.specs.Over.{over}
 use Rattle.buffers.proofs.FillLaws.{over-more}
-use Rattle.list_format.specs.Lists.{pair_at, PairIn}
-use Rattle.list_format.proofs.ListLaws.{pair-in, few-registers}
+use Rattle.list_format.specs.Lists.{pair_at}
+use Rattle.list_format.proofs.ListLaws.{few-registers}
 use Rattle.forced_late.specs.Forest.{early_early, late_early, depth_of, step_to, Root}
 use Rattle.forced_late.proofs.GrowLaws.{depth-few}
 use Rattle.blocking.specs.Paths.{height_of, root_of, first_chain, chains_of, Late, Traced, chain_in, Clashing}
@@ -48,9 +48,9 @@ module _ {ws : List ℕ} {n m k : ℕ} {answer S : List ℕ} (x : Clashing ws n 
     root : Root ws n S (get_or S' (n + b) 0) (root_of ws n S (pair_at ws k).launch)
     root = rw same_step (up_root S (pair_at ws k).launch late)
 
-    pub first-asks : PairIn ws (get_or S' (n + b) 0 / per_pair) × (get_or S' (n + b) 0 % per_pair ≡ early_early) × (2 ≤ length answer)
+    pub first-asks : (get_or S' (n + b) 0 / per_pair < m) × (get_or S' (n + b) 0 % per_pair ≡ early_early) × (2 ≤ length answer)
     first-asks = (
-      record { usable = x.growing.lent.list.usable; below = root.place },
+      omega (arith, root.place, x.growing.lent.list.pairs_are),
       root.row,
       omega (arith, x.room, root_below),
     )
@@ -91,9 +91,9 @@ module _ {ws : List ℕ} {n m k : ℕ} {answer S : List ℕ} (x : Clashing ws n 
       pub steps-inside : 2 * n + count ≤ length S'
       steps-inside = omega (arith, height-short, x.growing.lent.room, traced-size ws n m (pair_at ws k).launch S late t)
 
-      pub second-asks : (at : ℕ) → at ≤ 2 → PairIn ws k × (length steps ≤ max_registers) × (at + 2 * length steps + 2 ≤ length a1)
+      pub second-asks : (at : ℕ) → at ≤ 2 → (k < m) × (length steps ≤ max_registers) × (at + 2 * length steps + 2 ≤ length a1)
       second-asks at h = (
-        pair-in ws x.growing.lent.list x.below,
+        omega (arith, x.below, x.growing.lent.list.pairs_are),
         omega (arith, steps-length, height-short, few),
         omega (arith, steps-length, height-short, a1-size, x.room),
       )

@@ -13,7 +13,7 @@ use Rattle.buffers.proofs.RunLaws.{run_at}
 use Rattle.buffers.proofs.PadLaws.{run-same}
 use Rattle.buffers.proofs.FillLaws.{Filled, filled-self, filled-size, filled-later, set-put, over-more}
 use Rattle.buffers.proofs.FillLaws.{Filling, filling-start, filling-size, filling-end, filling-turn}
-use Rattle.list_format.specs.Lists.{pair_count, pair_at, PairIn}
+use Rattle.list_format.specs.Lists.{pair_count, pair_at}
 use Rattle.list_format.proofs.ListLaws.{few-registers}
 use Rattle.forced_late.specs.Forest.{late_early, late_late, step_to, source_of}
 use Rattle.forced_late.proofs.ForestLaws.{inner-most}
@@ -76,12 +76,13 @@ module _ (ws : List ℕ) (n m r : ℕ) (S : List ℕ) (l : Late ws n m S r) wher
     tracing-step =
         earlier (2 * n) (n + at) _ S S' room x.filling.filled (omega (arith, at_in)) ∙ ap (step_to n S) x.at_is
 
-    pub tracing-pair : PairIn ws (get_or S' (n + at) 0 / per_pair)
+    pub tracing-pair : get_or S' (n + at) 0 / per_pair < m
     tracing-pair =
-        record { usable = l.growing.lent.list.usable; below = rw tracing-step (up-child S r l i (omega (arith, x.height_is))).place }
+        let place : get_or S' (n + at) 0 / per_pair < pair_count ws = rw tracing-step (up-child S r l i (omega (arith, x.height_is))).place in
+        omega (arith, place, l.growing.lent.list.pairs_are)
 
     pub tracing-small : get_or S' (n + at) 0 < per_pair * max_pairs
-    tracing-small = omega (arith, tracing-pair.below, l.growing.lent.list.usable.few)
+    tracing-small = omega (arith, tracing-pair, l.growing.lent.list.pairs_are, l.growing.lent.list.usable.few)
 
     pub tracing-turn : {next : ℕ} → next ≡ source_of ws (get_or S' (n + at) 0)
         → Tracing height (set S' (2 * n + i) (get_or S' (n + at) 0)) next (i + 1)

@@ -6,7 +6,6 @@ ghost use Rattle.std.specs.Prelude.{◌≡◌, [], ◌∷◌, ◌++◌, ◌+◌,
 ghost use Rattle.timing.specs.Limits.{per_pair, max_pairs, max_registers};
 ghost use Rattle.buffers.specs.Over.{over};
 ghost use Rattle.refusals.specs.Checks.{first_fault};
-ghost use Rattle.list_format.specs.Lists.{PairIn};
 ghost use Rattle.propagate.specs.Store.{Lent};
 ghost use Rattle.forced_late.specs.Forest.{early_early, source_of};
 ghost use Rattle.blocking.specs.Paths.{first_chain, path_in, chain_in, Late, Traced, Clashing};
@@ -38,11 +37,11 @@ fn call_fault(list: DelayList, period: u32, room: usize, spare: usize) -> Result
 }
 
 // The register that a step from a late register to a late one comes from.
-fn source(words: &[u32], step: usize) -> usize
-    requires { PairIn words.now (step / per_pair) }
-    ensures { result ≡ source_of words.now step }
+fn source(list: DelayList, step: usize) -> usize
+    requires { step / per_pair < list.pairs }
+    ensures { result ≡ source_of list.entry.words.now step }
 {
-    let p = delay_list::pair_at(words, step / PER_PAIR);
+    let p = list.pair(step / PER_PAIR);
     if step % PER_PAIR == Row::LateEarly.number() {
         return p.launch as usize;
     }
@@ -60,7 +59,7 @@ fn trace(list: DelayList, r: usize, scratch: &mut [u32]) -> usize
     for i in 0..height {
         let step = scratch[n + at];
         scratch[2 * n + i] = step;
-        at = source(list.words, step as usize);
+        at = source(list, step as usize);
     }
     at
 }
@@ -74,12 +73,12 @@ fn put_step(answer: &mut [u32], at: usize, step: usize)
 }
 
 // The chain of a root from early to late, by the step that made it one. Its length is returned.
-fn put_first(words: &[u32], step: usize, answer: &mut [u32]) -> u32
-    requires { PairIn words.now (step / per_pair) × (step % per_pair ≡ early_early) × (2 ≤ length answer.old) }
-    ensures size { result ≡ length (first_chain words.now step) }
-    ensures stored { answer.new ≡ over (first_chain words.now step) answer.old }
+fn put_first(list: DelayList, step: usize, answer: &mut [u32]) -> u32
+    requires { (step / per_pair < list.pairs) × (step % per_pair ≡ early_early) × (2 ≤ length answer.old) }
+    ensures size { result ≡ length (first_chain list.entry.words.now step) }
+    ensures stored { answer.new ≡ over (first_chain list.entry.words.now step) answer.old }
 {
-    let p = delay_list::pair_at(words, step / PER_PAIR);
+    let p = list.pair(step / PER_PAIR);
     put_step(answer, 0, step);
     if p.launch == p.capture {
         return 1;
@@ -100,12 +99,12 @@ fn put_path(path: &[u32], down: bool, at: usize, answer: &mut [u32])
 
 // The chain of root b from late to early, from place `at` on: along a path down to the launch of pair k, and back by that pair. Its
 // length is returned.
-fn put_second(words: &[u32], k: usize, b: usize, path: &[u32], at: usize, answer: &mut [u32]) -> u32
-    requires { PairIn words.now k × (length path.now ≤ max_registers) × (at + 2 * length path.now + 2 ≤ length answer.old) }
-    ensures size { result ≡ length (chain_in words.now k b path.now) }
-    ensures stored { answer.new ≡ over (take at answer.old ++ chain_in words.now k b path.now) answer.old }
+fn put_second(list: DelayList, k: usize, b: usize, path: &[u32], at: usize, answer: &mut [u32]) -> u32
+    requires { (k < list.pairs) × (length path.now ≤ max_registers) × (at + 2 * length path.now + 2 ≤ length answer.old) }
+    ensures size { result ≡ length (chain_in list.entry.words.now k b path.now) }
+    ensures stored { answer.new ≡ over (take at answer.old ++ chain_in list.entry.words.now k b path.now) answer.old }
 {
-    let p = delay_list::pair_at(words, k);
+    let p = list.pair(k);
     let count = path.len();
     put_path(path, true, at, answer);
     put_step(answer, at + count, Row::LateLate.step(k));
@@ -127,9 +126,9 @@ fn put_chains(list: DelayList, k: usize, answer: &mut [u32], scratch: &mut [u32]
     let count = (scratch[p.launch as usize] as usize) - 1;
     let b = trace(list, p.launch as usize, scratch);
     let step = scratch[n + b] as usize;
-    let first = put_first(list.words, step, answer);
+    let first = put_first(list, step, answer);
     let second = put_second(
-        list.words,
+        list,
         k,
         b,
         &scratch[2 * n..2 * n + count],
@@ -148,10 +147,9 @@ fn prepare(list: DelayList, period: u32, scratch: &mut [u32])
     requires { Lent list.words.now list.registers list.pairs scratch.old }
     ensures { Ready list.entry.words.now period list.entry.registers scratch.old scratch.new }
 {
-    let common = free_climb::common(list.words, list.pairs);
+    let common = free_climb::common(list);
     let offset = common.saturating_sub(period);
-    let n = list.registers;
-    propagate::prepare(list.words, period, offset, n, list.pairs, scratch);
+    propagate::prepare(list, period, offset, scratch);
     forced_late::force_late(list, scratch);
 }
 

@@ -246,7 +246,7 @@ fn walk(list: DelayList, before: &mut [u16], scratch: &mut [u32])
     ensures { Grew list.entry.words.now list.entry.registers scratch.old scratch.new }
 {
     let mut lasts = [0u16; REGISTERS];
-    let ends = pair_ends::link(list.words, list.pairs, &mut lasts, before);
+    let ends = pair_ends::link(list, &mut lasts, before);
     let mut line = gather(list.registers, scratch);
     for i in 0..list.registers {
         let Some(r) = line.at(i) else {

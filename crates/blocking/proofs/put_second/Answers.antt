@@ -11,16 +11,16 @@ pub returns-then-p-b : goal.returns-then-p-b
 returns-then-p-b c =
     let a = c.args in
     let path = a.path.now in
-    let r = second-one a.words.now a.k a.b (path_in true path) (path_in false path) (length path) a.at a.answer.now (path-size _ (length path))
+    let r = second-one a.list.words.now a.k a.b (path_in true path) (path_in false path) (length path) a.at a.answer.now (path-size _ (length path))
     (path-size _ (length path)) (omega (arith, c.requires.2)) c.put_path.ensures (rw c.step.ensures at c.put_step.ensures)
-    (rw c.pair_at-p.ensures.same at c.if-p-b.true) in
+    (rw c.pair-p.ensures.same at c.if-p-b.true) in
     record { size = r.0; stored = r.1 }
 
 pub returns : goal.returns
 returns c =
     let a = c.args in
     let path = a.path.now in
-    let r = second-two a.words.now a.k a.b (path_in true path) (path_in false path) (length path) a.at a.answer.now (path-size _ (length path))
+    let r = second-two a.list.words.now a.k a.b (path_in true path) (path_in false path) (length path) a.at a.answer.now (path-size _ (length path))
     (path-size _ (length path)) (omega (arith, c.requires.2)) c.put_path.ensures (rw c.step.ensures at c.put_step.ensures)
-    (rw c.step-2.ensures at c.put_step-2.ensures) c.put_path-2.ensures (λ q. c.if-p-b.false (rw c.pair_at-p.ensures.same q)) in
+    (rw c.step-2.ensures at c.put_step-2.ensures) c.put_path-2.ensures (λ q. c.if-p-b.false (rw c.pair-p.ensures.same q)) in
     record { size = r.0; stored = r.1 }
