@@ -11,4 +11,5 @@ use Rattle.write_list.proofs.Given.pairs_fault.Given as goal
 
 abbrev pub invariant-loop-k : goal.invariant-loop-k
 invariant-loop-k l =
-    Remaining (given_checks l.asked l.self.registers l.self.numbers.now l.self.needs.now) ((ltb l.room (place_by (given_needs l.self.registers l.self.needs.now) l.m + 1), Room, 0) ∷ []) l.m l.k
+    Remaining (given_checks l.asked l.self.registers l.self.numbers.now l.self.needs.now)
+    ((ltb l.room (place_by (given_needs l.self.registers l.self.needs.now) l.m + 1), Room, 0) ∷ []) l.m l.k
