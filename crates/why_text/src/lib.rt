@@ -19,6 +19,7 @@ ghost use Rattle.why_text.specs.WhyText.{choice_words, end_words, rule_words, ch
 ghost use Rattle.why_text.specs.WhyText.{chains_in, ShownIn, register_line, blocked_text, why_cause, WhySaidAs};
 
 use blocking::Blocked;
+use delay_list::DelayList;
 use list_bytes::MAX_WORDS;
 use refusal_text::Cause;
 use refusals::{Refusal, Refused};
@@ -210,8 +211,12 @@ fn offset_at(words: &[u32], period: u32) -> u32
     requires { IsUsable words.now }
     ensures { result ≡ common (pairs words.now) - period }
 {
-    let m = words::head_pairs(words[0]) as usize;
-    free_climb::common(words, m).saturating_sub(period)
+    let list = DelayList {
+        words,
+        registers: words::head_registers(words[0]) as usize,
+        pairs: words::head_pairs(words[0]) as usize,
+    };
+    free_climb::common(list).saturating_sub(period)
 }
 
 // The register and the two chains at it, whose steps stand one after the other.
