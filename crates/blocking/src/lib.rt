@@ -99,7 +99,14 @@ fn put_path(path: &[u32], down: bool, at: usize, answer: &mut [u32])
 
 // The chain of root b from late to early, from place `at` on: along a path down to the launch of pair k, and back by that pair. Its
 // length is returned.
-fn put_second(list: DelayList, k: usize, b: usize, path: &[u32], at: usize, answer: &mut [u32]) -> u32
+fn put_second(
+    list: DelayList,
+    k: usize,
+    b: usize,
+    path: &[u32],
+    at: usize,
+    answer: &mut [u32],
+) -> u32
     requires { (k < list.pairs) × (length path.now ≤ max_registers) × (at + 2 * length path.now + 2 ≤ length answer.old) }
     ensures size { result ≡ length (chain_in list.entry.words.now k b path.now) }
     ensures stored { answer.new ≡ over (take at answer.old ++ chain_in list.entry.words.now k b path.now) answer.old }

@@ -170,11 +170,7 @@ fn pool_accepted(
 // of the same registers joined, with the smaller least and the larger greatest delay; later places keep their contents. Refusals 11 to 20 of
 // the first list, then of the second, each saying which; then 21: other counts of registers or other needs; 22: more than 2,048 pooled pairs;
 // 2: a buffer that is shorter than the pooled list. A refusal changes nothing.
-pub fn pool(
-    first: &[u32],
-    second: &[u32],
-    answer: &mut [u32],
-) -> Result<usize, PoolRefused>
+pub fn pool(first: &[u32], second: &[u32], answer: &mut [u32]) -> Result<usize, PoolRefused>
     ensures { PooledAs first.now second.now answer.old answer.new result }
 {
     let one = PoolPart::First.of(delay_list::verdict(first))?;
