@@ -66,7 +66,8 @@ module _ (ws : List ℕ) (t : ℕ) (s : List ℕ) where
   pub none-admissible : pair_count ws ≤ first_broken ws t s → admissible t (pairs ws) s ≡ true
   unfolding met_at margin_at
   none-admissible h =
-      admissible-complete t s (pairs ws) (each-pair ws _ (λ k l. test→met (pair_at ws k) t _ _ (not-false _ ((first-is ws t s).before k zero-le (omega arith)))))
+      admissible-complete t s (pairs ws)
+      (each-pair ws _ (λ k l. test→met (pair_at ws k) t _ _ (not-false _ ((first-is ws t s).before k zero-le (omega arith)))))
 
   admissible-none : admissible t (pairs ws) s ≡ true → first_broken ws t s < pair_count ws → ⊥
   unfolding met_at margin_at

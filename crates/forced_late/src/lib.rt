@@ -256,7 +256,8 @@ fn walk(list: DelayList, before: &mut [u16], scratch: &mut [u32])
     }
 }
 
-// The same with places for so many ends.
+// The same with places for so many ends. It is not put into its callers, so that only one of the two stands on the stack.
+#[inline(never)]
 fn walk_ends<const PLACES: usize>(list: DelayList, scratch: &mut [u32])
     requires { (PLACES ≤ 2 * max_pairs) × Growing list.words.now list.registers list.pairs scratch.old }
     ensures { Grew list.entry.words.now list.entry.registers scratch.old scratch.new }

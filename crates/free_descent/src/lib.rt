@@ -9,7 +9,7 @@ ghost use Rattle.list_format.specs.Lists.{pairs};
 ghost use Rattle.free_laws.specs.Constraint.{Bound};
 
 use delay_list::DelayList;
-use free_forest::{ASIDE, Across, Forest, Here, Link, NOBODY, Span};
+use free_forest::{ASIDE, Across, Forest, Here, Link, Span};
 use pair_ends::{Ends, REGISTERS};
 
 // ---- keys: up to which period a register has a broken rule into it, or longer, and the rule
@@ -407,10 +407,10 @@ pub fn descend(
 {
     let mut d = Descent {
         forest: Forest {
-            next: [NOBODY; REGISTERS],
-            before: [NOBODY; REGISTERS],
+            next: [0; REGISTERS],
+            before: [0; REGISTERS],
             counts: [0; REGISTERS],
-            aside: [NOBODY; ASIDE],
+            aside: [0; ASIDE],
         },
         keys: Keys {
             key: [0; REGISTERS],

@@ -165,7 +165,7 @@ impl Link {
 pub const ASIDE: usize = 32;
 
 // Nobody follows, or nobody stands before. A number of 16 bits takes less room than an option.
-pub const NOBODY: u16 = 0x200;
+const NOBODY: u16 = 0x200;
 
 // Added to the count of a register that moves.
 const MOVES: u16 = 0x8000;
@@ -255,6 +255,7 @@ impl Forest {
         x.fill(0);
         parents.fill(NO_RULE);
         self.counts.fill(0);
+        self.tie(None, Some(0));
         for r in 0..x.len() {
             self.tie(Some(r), following(r, x.len()));
         }

@@ -2,7 +2,8 @@
 -- A turn relaxes one pair: its two registers rise as far as its rules ask, and past no times that meet the rules of the list
 -- (`turned`). What a pair has attained stays attained as times rise further (`reached-more`). After a turn for each place, up or
 -- down, every rule has what it asked of the times at the start: that is a round (`part_end`).
-use Rattle.std.proofs.Common.{◌≡◌, ℕ, ◌+◌, ◌-◌, ◌<◌, ◌≤◌, Bool, List, length, sym, refl, ap, ◌∙◌, subst, zero-le, le_trans, le_refl, add-zero, arith, length-set, below_more}
+use Rattle.std.proofs.Common.{◌≡◌, ℕ, ◌+◌, ◌-◌, ◌<◌, ◌≤◌, Bool, List, length, sym, refl, ap, ◌∙◌, subst, zero-le, le_trans, le_refl}
+use Rattle.std.proofs.Common.{add-zero, arith, length-set, below_more}
 use Rattle.timing.specs.declared.Pair.{Pair}
 use Rattle.timing.specs.Rules.{time, Each, InRange}
 use Rattle.timing.specs.Limits.{max_timing}

@@ -65,7 +65,7 @@ fn relax(
 }
 
 // One round over the pairs, up or down the list. The answer is the register raised last, or the count of registers
-// if none was.
+// if none was: a hint, which is tested where it is used.
 pub fn round(
     list: DelayList,
     x: &mut [u32],

@@ -26,7 +26,9 @@ pub fn fill(list: DelayList, ends: Ends, answer: &mut [u32]) -> u32
     free_climb::climb(list, &mut answer[..list.registers], ends)
 }
 
-// The answer for an accepted list, with so many places for the ends of its pairs.
+// The answer for an accepted list, with so many places for the ends of its pairs. It is not put into its callers, so that only one
+// of the two stands on the stack.
+#[inline(never)]
 fn answer_within<const PLACES: usize>(list: DelayList, answer: &mut [u32]) -> Periods
     requires places { PLACES ≤ 2 * max_pairs }
     requires list { IsAccepted list.words.now × Roomy list.words.now list.registers list.pairs answer.old }

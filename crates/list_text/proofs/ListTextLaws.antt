@@ -115,20 +115,23 @@ module _ {ws now : List ℕ} {r : Reading} (a : ReadAs ws (zeros list_numbers) n
 
     needs-are : take (2 * found.registers) (drop (4 * found.pairs) now) ≡ needs_of ws
     needs-are =
-        rw (stored-are, drop_at (numbers_of ws) (needs_of ws ++ left) (4 * found.pairs) numbers-size) (take_at (needs_of ws) left (2 * found.registers) needs-size)
+        rw (stored-are, drop_at (numbers_of ws) (needs_of ws ++ left) (4 * found.pairs) numbers-size)
+        (take_at (needs_of ws) left (2 * found.registers) needs-size)
 
     pub read-room : read_places found.registers found.pairs ≤ length now
     read-room =
         let L = left in
         rw (stored-are, length-append, length-append) (omega (arith, numbers-size, needs-size))
 
-    pub show-read : {next : ℕ} {text text' : List ℕ} → Put list_width (text_of found.registers (take (4 * found.pairs) now) (take (2 * found.registers) (drop (4 * found.pairs) now))) text 0 text' next
+    pub show-read : {next : ℕ} {text text' : List ℕ}
+        → Put list_width (text_of found.registers (take (4 * found.pairs) now) (take (2 * found.registers) (drop (4 * found.pairs) now))) text 0 text' next
         → SaidAs shown_places (told refused_saying shown_said (reading ws list_numbers)) text text' (Ok next)
     unfolding told
     show-read put =
         let xs = take_at (numbers_of ws) (needs_of ws) (4 * pair_count ws) (numbers-length ws) in
         let ys = drop_at (numbers_of ws) (needs_of ws) (4 * pair_count ws) (numbers-length ws) in
-        let here : told refused_saying shown_said (reading ws list_numbers) ≡ say_text (text_of found.registers (take (4 * found.pairs) now) (take (2 * found.registers) (drop (4 * found.pairs) now))) =
+        let here : told refused_saying shown_said (reading ws list_numbers)
+        ≡ say_text (text_of found.registers (take (4 * found.pairs) now) (take (2 * found.registers) (drop (4 * found.pairs) now))) =
         rw (is, xs, ys, numbers-are, needs-are, registers-are) in
         rw here (said-text put (omega arith))
 
@@ -270,5 +273,6 @@ module _ {text xs : List ℕ} {r : Scanned} (a : ScanAs true text (zeros max_num
         → MadeAs (made text) out out' answer
     unfolding made_of
     make-numbers m =
-        let here : made text ≡ made_with text found.needs (get_or (take found.count xs) 0 0) (drop 1 (take found.count xs)) = rw (← a.answer, e, stored-front a e) in
+        let here : made text ≡ made_with text found.needs (get_or (take found.count xs) 0 0) (drop 1 (take found.count xs)) =
+        rw (← a.answer, e, stored-front a e) in
         rw here m

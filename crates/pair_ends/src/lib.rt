@@ -91,8 +91,7 @@ pub fn link<'a>(
     list: DelayList,
     lasts: &'a mut [u16; REGISTERS],
     before: &'a mut [u16],
-) -> Ends<'a>
-{
+) -> Ends<'a> {
     for k in 0..list.pairs {
         let p = list.pair(k);
         let first = 2 * (k % MAX_PAIRS);

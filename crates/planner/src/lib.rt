@@ -90,7 +90,9 @@ fn plan_counted(
     plan_by(counted, before, answer)
 }
 
-// The same, with so many places for the ends of the pairs.
+// The same, with so many places for the ends of the pairs. It is not put into its callers, so that only one of the two stands on the
+// stack.
+#[inline(never)]
 fn plan_within<const PLACES: usize>(
     list: DelayList,
     answer: &mut [u32],

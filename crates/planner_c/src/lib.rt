@@ -4,6 +4,8 @@
 #![tactic(auto)]
 
 ghost use Rattle.std.specs.Prelude.{◌≡◌, [], ◌∷◌};
+ghost use Rattle.std.specs.Prelude.{Ok};
+ghost use Rattle.refusals.specs.Checks.{number_of};
 ghost use Rattle.list_format.specs.Read.{read_reply};
 ghost use Rattle.list_format.specs.Write.{write_reply};
 ghost use Rattle.list_format.specs.RoundTrip.{ReadAs, WrittenAs};
@@ -18,13 +20,8 @@ ghost use Rattle.text_pieces.specs.Pieces.{Put};
 ghost use Rattle.report.specs.Report.{text_places, report};
 ghost use Rattle.planner_c.specs.Coded.{result_status, places_of, AnswerCoded};
 
-use blocking::Reason;
 use checker::{Checking, Rule, Smallest};
-use converter::Converting;
-use free_schedule::FreeAnswer;
-use list_format::{Reading, Writing};
-use planner::Planning;
-use split::Splitting;
+use refusals::Refused;
 
 // A count of values, then eight of them.
 const REPLY_PLACES: usize = 9;
@@ -57,12 +54,12 @@ fn tell(reply: &mut [u64; REPLY_PLACES], count: u64, a: u64, b: u64, c: u64, d: 
 }
 
 // The reply of a refusal: its place. The refusal's number is returned.
-fn refuse(reply: &mut [u64; REPLY_PLACES], number: u32, place: usize) -> u32
-    ensures status { result ≡ number }
-    ensures places { reply.new ≡ 1 ∷ place ∷ 0 ∷ 0 ∷ 0 ∷ 0 ∷ 0 ∷ 0 ∷ 0 ∷ [] }
+fn refuse(reply: &mut [u64; REPLY_PLACES], refused: Refused) -> u32
+    ensures status { result ≡ number_of refused.refusal }
+    ensures places { reply.new ≡ 1 ∷ refused.place ∷ 0 ∷ 0 ∷ 0 ∷ 0 ∷ 0 ∷ 0 ∷ 0 ∷ [] }
 {
-    tell(reply, 1, place as u64, 0, 0, 0, 0);
-    number
+    tell(reply, 1, refused.place as u64, 0, 0, 0, 0);
+    refused.refusal.number()
 }
 
 // The number of a rule.
@@ -87,8 +84,16 @@ pub extern "C" fn darnerflax_read(
     ensures { AnswerCoded read_reply (ReadAs words.now answer.old answer.new) result reply.new }
 {
     match read_list::read(words, answer) {
-        Reading::Refused(number, place) => refuse(reply, number, place),
-        Reading::Read(n, m) => tell(reply, 2, n as u64, m as u64, 0, 0, 0),
+        Err(unread) => refuse(reply, unread),
+        Ok(counts) => tell(
+            reply,
+            2,
+            counts.registers as u64,
+            counts.pairs as u64,
+            0,
+            0,
+            0,
+        ),
     }
 }
 
@@ -106,8 +111,8 @@ pub extern "C" fn darnerflax_write(
         (WrittenAs n numbers.now needs.now answer.old answer.new) result reply.new }
 {
     match write_list::write(n, numbers, needs, answer) {
-        Writing::Refused(number, place) => refuse(reply, number, place),
-        Writing::Written(count) => tell(reply, 1, count as u64, 0, 0, 0, 0),
+        Err(refused) => refuse(reply, refused),
+        Ok(count) => tell(reply, 1, count as u64, 0, 0, 0, 0),
     }
 }
 
@@ -122,8 +127,8 @@ pub extern "C" fn darnerflax_convert(
     ensures { AnswerCoded convert_reply (ConvertedAs words.now answer.old answer.new) result reply.new }
 {
     match converter::convert(words, answer) {
-        Converting::Refused(number, place) => refuse(reply, number, place),
-        Converting::Converted(places) => tell(reply, 1, places as u64, 0, 0, 0, 0),
+        Err(damaged) => refuse(reply, damaged),
+        Ok(places) => tell(reply, 1, places as u64, 0, 0, 0, 0),
     }
 }
 
@@ -131,7 +136,7 @@ pub extern "C" fn darnerflax_convert(
 #[tactic(auto, unfolding(checker::specs::Check::check_reply, checker::specs::Check::check_values, checker::specs::Check::smallest_numbers, crate::specs::Coded::places_of))]
 fn tell_admissible(reply: &mut [u64; REPLY_PLACES], x: Smallest) -> u32
     ensures status { result ≡ result_status }
-    ensures places { reply.new ≡ places_of (check_reply (Admissible x)) }
+    ensures places { reply.new ≡ places_of (check_reply (Ok (Admissible x))) }
 {
     let margin = words::signed_word(x.margin);
     let rule = x.rule;
@@ -142,7 +147,7 @@ fn tell_admissible(reply: &mut [u64; REPLY_PLACES], x: Smallest) -> u32
 #[tactic(auto, unfolding(checker::specs::Check::check_reply, checker::specs::Check::check_values, checker::specs::Check::smallest_numbers, crate::specs::Coded::places_of))]
 fn tell_broken(reply: &mut [u64; REPLY_PLACES], k: usize, broken: Rule, x: Smallest) -> u32
     ensures status { result ≡ result_status }
-    ensures places { reply.new ≡ places_of (check_reply (Broken k broken x)) }
+    ensures places { reply.new ≡ places_of (check_reply (Ok (Broken k broken x))) }
 {
     let margin = words::signed_word(x.margin);
     let rule = x.rule;
@@ -170,10 +175,12 @@ pub extern "C" fn darnerflax_check(
     ensures { AnswerCoded check_reply (CheckedAs words.now period timings.now) result reply.new }
 {
     match checker::check(words, period, timings) {
-        Checking::Refused(number, place) => refuse(reply, number, place),
-        Checking::NoPairs => tell(reply, 0, 0, 0, 0, 0, 0),
-        Checking::Admissible(x) => tell_admissible(reply, x),
-        Checking::Broken(k, rule, x) => tell_broken(reply, k, rule, x),
+        Err(refused) => refuse(reply, refused),
+        Ok(checked) => match checked {
+            Checking::NoPairs => tell(reply, 0, 0, 0, 0, 0, 0),
+            Checking::Admissible(x) => tell_admissible(reply, x),
+            Checking::Broken(k, rule, x) => tell_broken(reply, k, rule, x),
+        },
     }
 }
 
@@ -187,8 +194,16 @@ pub extern "C" fn darnerflax_free(
     ensures { AnswerCoded free_reply (FreeAs words.now answer.old answer.new) result reply.new }
 {
     match free_schedule::free(words, answer) {
-        FreeAnswer::Refused(number, place) => refuse(reply, number, place),
-        FreeAnswer::Periods(common, free) => tell(reply, 2, common as u64, free as u64, 0, 0, 0),
+        Err(refused) => refuse(reply, refused),
+        Ok(periods) => tell(
+            reply,
+            2,
+            periods.common as u64,
+            periods.free as u64,
+            0,
+            0,
+            0,
+        ),
     }
 }
 
@@ -207,9 +222,11 @@ pub extern "C" fn darnerflax_split(
         result reply.new }
 {
     match split::split(words, period, offset, answer, scratch) {
-        Splitting::Refused(number, place) => refuse(reply, number, place),
-        Splitting::Split => tell(reply, 1, SPLIT, 0, 0, 0, 0),
-        Splitting::NoSplit => tell(reply, 1, NO_SPLIT, 0, 0, 0, 0),
+        Err(refused) => refuse(reply, refused),
+        Ok(works) => match works {
+            true => tell(reply, 1, SPLIT, 0, 0, 0, 0),
+            false => tell(reply, 1, NO_SPLIT, 0, 0, 0, 0),
+        },
     }
 }
 
@@ -227,14 +244,14 @@ pub extern "C" fn darnerflax_plan(
         result reply.new }
 {
     match planner::plan(words, answer, scratch) {
-        Planning::Refused(number, place) => refuse(reply, number, place),
-        Planning::Planned(common, free, two, offset) => tell(
+        Err(refused) => refuse(reply, refused),
+        Ok(plan) => tell(
             reply,
             4,
-            common as u64,
-            free as u64,
-            two as u64,
-            offset as u64,
+            plan.common as u64,
+            plan.free as u64,
+            plan.two as u64,
+            plan.offset as u64,
             0,
         ),
     }
@@ -255,17 +272,19 @@ pub extern "C" fn darnerflax_why_not(
         result reply.new }
 {
     match blocking::why_not(words, period, answer, scratch) {
-        Reason::Refused(number, place) => refuse(reply, number, place),
-        Reason::Workable => tell(reply, 1, WORKABLE, 0, 0, 0, 0),
-        Reason::Blocked(register, first, second) => tell(
-            reply,
-            4,
-            BLOCKED,
-            register as u64,
-            first as u64,
-            second as u64,
-            0,
-        ),
+        Err(refused) => refuse(reply, refused),
+        Ok(found) => match found {
+            None => tell(reply, 1, WORKABLE, 0, 0, 0, 0),
+            Some(blocked) => tell(
+                reply,
+                4,
+                BLOCKED,
+                blocked.register as u64,
+                blocked.first as u64,
+                blocked.second as u64,
+                0,
+            ),
+        },
     }
 }
 

@@ -1,4 +1,3 @@
 -- The laws, which other crates may cite too.
-pub mod MeaningLaws
 pub mod MadeLaws
 pub mod PoolTextLaws

@@ -14,7 +14,7 @@ use Rattle.text_pieces.specs.Pieces.{Put}
 use Rattle.text_pieces.proofs.PutLaws.{put-within}
 use Rattle.list_bytes.specs.ListBytes.{max_words}
 use Rattle.convert_text.specs.ConvertText.{Product, list_bytes, MadeAs, made_done}
-use Rattle.convert_text.specs.declared.Made.TheVariants.{Bytes}
+use Rattle.std.specs.Prelude.{Ok}
 use Rattle.convert_text.proofs.ConvertTextLaws.{made_bytes}
 
 -- what a call that stores the words of a list comes to
@@ -50,7 +50,7 @@ module _ {cs : List Check} {us now : List ℕ} {count : ℕ} (s : Stored cs us n
 
   pub stored-made : (f : ℕ → ℕ → Product) {next : ℕ} {out out' : List ℕ} → length now ≡ max_words
       → Put (4 * length (take count now)) (to_bytes (take count now) (length (take count now))) out 0 out' next
-      → MadeAs (told f made_done (storing cs us)) out out' (Bytes next)
+      → MadeAs (told f made_done (storing cs us)) out out' (Ok next)
   unfolding told
   stored-made f whole put =
       let here : told f made_done (storing cs us) ≡ list_bytes (to_bytes (take count now) (length (take count now))) = rw (is, words_are) in

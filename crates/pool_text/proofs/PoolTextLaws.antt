@@ -7,14 +7,15 @@ use Rattle.buffers.specs.Over.{zeros}
 use Rattle.buffers.proofs.PadLaws.{zeros-size}
 use Rattle.refusals.specs.Reply.{refusal, numbers, Outcome, refused, done, reply_of, buffer_after}
 use Rattle.refusals.proofs.ReplyLaws.{told-refusal}
-use Rattle.pooling.specs.Pool.{list_refusal, list_numbers, of_list, pooled, pool_checks, pooling, refused_list, pool_reply, PooledAs}
-use Rattle.pooling.specs.declared.Pooling.{Pooling}
-use Rattle.pooling.specs.declared.Pooling.TheVariants.{Pooled, Refused}
+use Rattle.pooling.specs.Pool.{Pooling, number_of_part, list_refusal, list_numbers, of_list, pooled, pool_checks, pooling, refused_list, pool_reply, PooledAs}
+use Rattle.std.specs.Prelude.{Ok, Err}
+use Rattle.refusals.specs.Checks.{number_of}
+use Rattle.text_pieces.specs.Saying.{trouble_of}
+use Rattle.pooling.specs.declared.PoolRefused.{PoolRefused}
 use Rattle.text_pieces.specs.Pieces.{Put}
 use Rattle.list_bytes.specs.ListBytes.{max_words}
 use Rattle.refusal_text.specs.RefusalText.{line_width}
 use Rattle.convert_text.specs.ConvertText.{MadeAs, made_done}
-use Rattle.convert_text.specs.declared.Made.TheVariants.{Fault}
 use Rattle.convert_text.proofs.ConvertTextLaws.{made_fault}
 use Rattle.pool_text.specs.PoolText.{refusal_line_of, not_pooled, pooled_from}
 use Rattle.pool_text.proofs.MadeLaws.{Stored}
@@ -43,13 +44,14 @@ module _ {ws vs now : List ℕ} {r : Pooling} (a : PooledAs ws vs (zeros max_wor
   buffer : now ≡ buffer_after (pooling ws vs max_words) (zeros max_words)
   buffer = rw (zeros-size max_words) at a.stored
 
-  pub pool-refused : {list number place next : ℕ} {out out' : List ℕ} → r ≡ Refused list number place
-      → Put line_width (refusal_line_of list number place) out 0 out' next → MadeAs (pooled_from ws vs) out out' (Fault next)
+  pub pool-refused : {why : PoolRefused} {next : ℕ} {out out' : List ℕ} → r ≡ Err why
+      → Put line_width (refusal_line_of (number_of_part why.«of») (number_of why.refused.refusal) why.refused.place) out 0 out' next
+      → MadeAs (pooled_from ws vs) out out' (Err (trouble_of next))
   unfolding pool_reply
   pool-refused e put =
       let both = of-refused (refused_list ws vs) (pooling ws vs max_words) (rw e at answer) in
       rw (told-refusal (not_pooled (refused_list ws vs)) made_done (pooling ws vs max_words) both.1, ← both.0) (made_fault put)
 
-  pub pool-stored : {count : ℕ} → r ≡ Pooled count → Stored (pool_checks ws vs max_words) (pooled ws vs) now count
+  pub pool-stored : {count : ℕ} → r ≡ Ok count → Stored (pool_checks ws vs max_words) (pooled ws vs) now count
   unfolding pool_reply pooling
   pool-stored e = record { given = of-numbers (refused_list ws vs) (pooling ws vs max_words) (rw e at answer); stored = buffer }

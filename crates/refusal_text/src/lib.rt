@@ -37,7 +37,7 @@ pub enum Cause {
 
 // What a refusal means; what the last two mean of two lists together, `pool_text` says.
 #[tactic(auto, unfolding(crate::specs::RefusalText::words_for, crate::specs::RefusalText::call_meaning, crate::specs::RefusalText::pair_meaning, crate::specs::RefusalText::meaning, refusals::specs::Checks::number_of))]
-fn refusal_words(refusal: Refusal) -> &'static [u8]
+pub fn refusal_words(refusal: Refusal) -> &'static [u8]
     ensures is { result.now ≡ meaning (number_of refusal) }
     ensures short { length result.now ≤ words_width }
 {
@@ -76,7 +76,7 @@ fn cause_words(cause: Cause) -> &'static [u8]
 }
 
 // The words for a refusal, or for the cause of one.
-pub fn put_meaning(text: &mut [u8], at: usize, cause: Cause) -> usize
+fn put_meaning(text: &mut [u8], at: usize, cause: Cause) -> usize
     requires { at + words_width ≤ length text.old }
     ensures { Put words_width (meaning (cause_number cause)) text.old at text.new result }
 {

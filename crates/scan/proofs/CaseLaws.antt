@@ -11,7 +11,8 @@ use Rattle.text_pieces.specs.Pieces.{zero_byte, nine_byte, newline}
 use Rattle.scan.specs.declared.State.{State}
 use Rattle.scan.specs.declared.TextFault.{TextFault}
 use Rattle.scan.specs.declared.TextFault.TheVariants.{BadByte, LargeNumber, BadFirstLine, BadLine, TooManyNumbers, NoNumber, OtherPairs}
-use Rattle.scan.specs.Scan.{max_numbers, max_value, is_blank, comment_byte, with_fault, failed, valued, with_digit, is_second, outside, number_ended, line_fault}
+use Rattle.scan.specs.Scan.{max_numbers, max_value, is_blank, comment_byte, with_fault, failed, valued, with_digit}
+use Rattle.scan.specs.Scan.{is_second, outside, number_ended, line_fault}
 use Rattle.scan.specs.Scan.{need_line, needs_then, next_line, line_ended, commented, step_in_line, step, end_fault, at_end, finished, kept_in}
 
 -- ---- the end of a line of a list

@@ -11,8 +11,10 @@ use Rattle.std.specs.Prelude.{Option, None, Some, is_some, Ok, Err, ⊤}
 use Rattle.scan.specs.declared.FaultAt.{FaultAt}
 use Rattle.scan.specs.declared.TextFault.{TextFault}
 use Rattle.scan.specs.declared.TextFault.TheVariants.{BadByte, LargeNumber, BadFirstLine, BadLine, TooManyNumbers, NoNumber, TooLong, OtherPairs}
-use Rattle.scan.specs.Scan.{max_numbers, max_value, text_bytes, is_blank, comment_byte, start, with_fault, failed, with_digit, is_second, number_ended, line_fault}
-use Rattle.scan.specs.Scan.{line_ended, step_in_line, step, end_fault, at_end, finished, after, last, fault_index, faulty_at, without_mark, scanned, Scanned, result_with}
+use Rattle.scan.specs.Scan.{max_numbers, max_value, text_bytes, is_blank, comment_byte, start, with_fault, failed, with_digit}
+use Rattle.scan.specs.Scan.{is_second, number_ended, line_fault}
+use Rattle.scan.specs.Scan.{line_ended, step_in_line, step, end_fault, at_end, finished, after, last}
+use Rattle.scan.specs.Scan.{fault_index, faulty_at, without_mark, scanned, Scanned, result_with}
 
 -- not that a line is wrong, nor that there are other pairs than the first line says
 abbrev pub no_line : TextFault → Bool

@@ -4,7 +4,8 @@
 -- there may be lines of two, the needs of a register: hold and setup. Each later one has four, those of a pair. Lines without a number
 -- are skipped.
 use Rattle.std.specs.Prelude.{Option, None, Some, is_some, Result, Ok, Err, slice_get}
-use Rattle.std.specs.Prelude.{ℕ, suc, ◌+◌, ◌-◌, ◌*◌, ◌≤◌, ◌<◌, Bool, false, true, cond, ◌&&◌, ◌||◌, List, [], ◌∷◌, ◌++◌, ◌≡◌, ltb, leb, eqb, length, set, get_or, take, drop}
+use Rattle.std.specs.Prelude.{ℕ, suc, ◌+◌, ◌-◌, ◌*◌, ◌≤◌, ◌<◌, Bool, false, true, cond, ◌&&◌, ◌||◌, List, [], ◌∷◌, ◌++◌, ◌≡◌}
+use Rattle.std.specs.Prelude.{ltb, leb, eqb, length, set, get_or, take, drop}
 use Rattle.timing.specs.Limits.{max_registers, max_pairs}
 use Rattle.buffers.specs.Over.{over}
 use Rattle.text_pieces.specs.Pieces.{zero_byte, nine_byte, space, newline}

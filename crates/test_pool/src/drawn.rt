@@ -9,12 +9,21 @@ use test_kit::tally::{Fate, Tally, Turn};
 
 // Two lists of n registers, with so many pairs each, those of the second after those of the first; and the next seed.
 #[derive(Clone, Copy)]
-pub struct Two<const N: usize, const M: usize> {
+struct Two<const N: usize, const M: usize> {
     needs: [Needs; N],
     pairs: [Pair; M],
     n: usize,
     first: usize,
     second: usize,
+    seed: u64,
+}
+
+// The two lists, the pairs of both as one list, and the next seed.
+#[derive(Clone, Copy)]
+pub struct Lists<'a> {
+    pub first: List<'a>,
+    pub second: List<'a>,
+    pub both: List<'a>,
     pub seed: u64,
 }
 
@@ -26,23 +35,20 @@ impl<const N: usize, const M: usize> Two<N, M> {
         }
     }
 
-    pub fn first(&self) -> List<'_> {
-        self.of(front(&self.pairs, self.first))
-    }
-
-    pub fn second(&self) -> List<'_> {
-        self.of(front(rest(&self.pairs, self.first), self.second))
-    }
-
-    // The pairs of both.
-    pub fn both(&self) -> List<'_> {
-        self.of(front(&self.pairs, self.first.saturating_add(self.second)))
+    fn lists(&self) -> Lists<'_> {
+        let end = self.first.saturating_add(self.second);
+        Lists {
+            first: self.of(front(&self.pairs, self.first)),
+            second: self.of(front(rest(&self.pairs, self.first), self.second)),
+            both: self.of(front(&self.pairs, end)),
+            seed: self.seed,
+        }
     }
 }
 
 // Two lists of up to N registers, no fewer than one, and up to half of M pairs each, ascending, with delays up to `delay`, more with a
 // hold, and needs up to `need`.
-pub fn lists<const N: usize, const M: usize>(seed: u64, delay: u32, need: u32) -> Two<N, M>
+fn draw<const N: usize, const M: usize>(seed: u64, delay: u32, need: u32) -> Two<N, M>
     requires { (N ≤ 64) × (M ≤ 64) }
 {
     let mut d = Two {
@@ -70,7 +76,7 @@ pub fn lists<const N: usize, const M: usize>(seed: u64, delay: u32, need: u32) -
 }
 
 // How so many random lists fare, two at a time, each two judged by one function.
-pub fn many_pools<const N: usize, const M: usize, F: Fn(&Two<N, M>) -> Turn>(
+pub fn many_pools<const N: usize, const M: usize, F: Fn(Lists<'_>) -> Turn>(
     turns: u32,
     delay: u32,
     need: u32,
@@ -82,7 +88,8 @@ pub fn many_pools<const N: usize, const M: usize, F: Fn(&Two<N, M>) -> Turn>(
     let mut tally = Tally::none();
     let mut next = 37;
     for _ in 0..turns {
-        let t = judge(&lists::<N, M>(next, delay, need));
+        let d = draw::<N, M>(next, delay, need);
+        let t = judge(d.lists());
         tally = tally.with(t.fate);
         next = t.seed;
     }

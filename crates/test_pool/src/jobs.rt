@@ -1,5 +1,5 @@
 // Random small lists: the plan of the pooled list against searches over the pairs of both.
-use crate::drawn::{Two, many_pools};
+use crate::drawn::{Lists, many_pools};
 use std::io;
 use test_kit::places::{DIRT, front};
 use test_kit::tally::{Fate, Tally, Turn};
@@ -18,19 +18,15 @@ const NEED: u32 = 1;
 const LISTS: u32 = 1_000;
 
 // Whether the pooled list has the plan of the pairs of both.
-fn right(d: &Two<REGISTERS, PAIRS>) -> bool {
+fn right(d: Lists<'_>) -> bool {
     let mut a = [0u32; 18];
     let mut b = [0u32; 18];
     let mut answer = [DIRT; 30];
-    let pooled = pooling::pool(
-        d.first().write(&mut a),
-        d.second().write(&mut b),
-        &mut answer,
-    );
-    pooled.is_ok_and(|count| plan_right(d.both(), front(&answer, count)))
+    let pooled = pooling::pool(d.first.write(&mut a), d.second.write(&mut b), &mut answer);
+    pooled.is_ok_and(|count| plan_right(d.both, front(&answer, count)))
 }
 
-fn turn(d: &Two<REGISTERS, PAIRS>) -> Turn {
+fn turn(d: Lists<'_>) -> Turn {
     Turn {
         seed: d.seed,
         fate: Fate::from(right(d)),

@@ -250,7 +250,7 @@ fn refuse<'a>(rt: &impl Print, a: &'a [u32], b: &'a [u32], room: usize) -> io::R
 }
 
 // A call with such needs of both lists.
-fn call(need: u32, room: usize) -> Call {
+fn alike(need: u32, room: usize) -> Call {
     Call {
         need,
         other: need,
@@ -259,9 +259,9 @@ fn call(need: u32, room: usize) -> Call {
 }
 
 pub fn refused(rt: &impl Print) -> io::Result<()> {
-    let plain = call(0, WORDS);
-    let with_needs = call(MAX_NEED, WORDS);
-    let no_place = call(MAX_NEED, 0);
+    let plain = alike(0, WORDS);
+    let with_needs = alike(MAX_NEED, WORDS);
+    let no_place = alike(MAX_NEED, 0);
     let apart = Call {
         need: MAX_NEED,
         other: 0,
@@ -277,13 +277,13 @@ pub fn refused(rt: &impl Print) -> io::Result<()> {
         "2048 pairs in a place too few: ",
         EVEN,
         ODD,
-        call(0, PLAIN_WORDS - 1),
+        alike(0, PLAIN_WORDS - 1),
     )?;
     too_many(
         rt,
         "the same with needs: ",
         EVEN,
         ODD,
-        call(MAX_NEED, WORDS - 1),
+        alike(MAX_NEED, WORDS - 1),
     )
 }

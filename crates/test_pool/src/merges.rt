@@ -1,6 +1,6 @@
 // Random lists of one chip against a plain merge, and the pairs of one list dealt to two.
 use crate::calls::{ROOM, fits, pools, short};
-use crate::drawn::{DEALT, Deal, Two, deal_out, many_pools};
+use crate::drawn::{DEALT, Deal, Lists, deal_out, many_pools};
 use std::io;
 use test_kit::lists::{List, Pair, needy};
 use test_kit::random;
@@ -35,14 +35,14 @@ fn alone<'a>(list: &'a [u32], empty: &'a [u32]) -> bool {
 }
 
 // Whether two lists are pooled as the plain merge says.
-fn right(d: &Two<REGISTERS, PAIRS>) -> Turn {
+fn right(d: Lists<'_>) -> Turn {
     let mut a = [0u32; WORDS];
     let mut b = [0u32; WORDS];
     let mut c = [0u32; WORDS];
     let mut buffer = [0u32; ROOM];
-    let first = d.first().write(&mut a);
-    let second = d.second().write(&mut b);
-    let both = d.both();
+    let first = d.first.write(&mut a);
+    let second = d.second.write(&mut b);
+    let both = d.both;
     let pairs = joined(both.pairs);
     let empty = needy(&[], both.needs).write(&mut c);
     let expected = needy(pairs.all(), both.needs).write(&mut buffer);

@@ -1,5 +1,5 @@
 // Random small lists: a schedule is admissible for the pooled list exactly if it is for each of the two.
-use crate::drawn::{Two, many_pools};
+use crate::drawn::{Lists, many_pools};
 use checker::Checking;
 use std::io;
 use test_kit::places::front;
@@ -60,14 +60,14 @@ fn fate(first: &[u32], second: &[u32], pooled: &[u32], n: u32, period: u32) -> F
     found
 }
 
-fn turn(d: &Two<REGISTERS, PAIRS>) -> Turn {
+fn turn(d: Lists<'_>) -> Turn {
     let mut a = [0u32; 18];
     let mut b = [0u32; 18];
     let mut answer = [0u32; 30];
-    let first = d.first().write(&mut a);
-    let second = d.second().write(&mut b);
+    let first = d.first.write(&mut a);
+    let second = d.second.write(&mut b);
     let period = PERIOD + up_to(d.seed, PERIODS);
-    let n = d.both().registers();
+    let n = d.both.registers();
     let fate = match pooling::pool(first, second, &mut answer) {
         Err(_) => Fate::Wrong,
         Ok(count) => fate(first, second, front(&answer, count), n, period),

@@ -98,75 +98,6 @@ fn order_fault(numbers: &[u32], asked: bool, k: usize) -> Result<(), Refused>
     )
 }
 
-// 14, 15, 16, 19 and 20: pair k.
-fn pair_fault(n: u32, numbers: &[u32], needs: &[u32], asked: bool, k: usize) -> Result<(), Refused>
-    requires { 4 * k + 4 ≤ length numbers.now }
-    ensures { result ≡ first_fault (given_checks asked n numbers.now needs.now k) }
-{
-    let p = given_pair(numbers, k);
-    let hold = given_hold(needs, p.capture);
-    delay_list::value_fault(n, hold, p, k, k, k)?;
-    order_fault(numbers, asked, k)
-}
-
-// The pairs one by one, then 2. `count` words of needs are written.
-fn pairs_fault(
-    n: u32,
-    numbers: &[u32],
-    needs: &[u32],
-    asked: bool,
-    count: usize,
-    m: usize,
-    room: usize,
-) -> Result<(), Refused>
-    requires { (count ≡ given_needs n needs.now)
-        × ((count < 2 ^ register_bits) × ((m < 2 ^ count_bits) × (4 * m ≤ length numbers.now))) }
-    ensures { result ≡ first_fault (given_pairs asked n numbers.now needs.now m room) }
-{
-    for k in 0..m {
-        pair_fault(n, numbers, needs, asked, k)?;
-    }
-    let places = delay_list::pair_place(count, m) + 1;
-    check(room < places, Refusal::Room, 0)
-}
-
-// The needs register by register, then the pairs and the room.
-fn body_fault(
-    n: u32,
-    numbers: &[u32],
-    needs: &[u32],
-    asked: bool,
-    count: usize,
-    m: usize,
-    room: usize,
-) -> Result<(), Refused>
-    requires { (count ≡ given_needs n needs.now)
-        × ((count < 2 ^ register_bits) × ((2 * n ≤ length needs.now) × ((m < 2 ^ count_bits) × (4 * m ≤ length numbers.now)))) }
-    ensures { result ≡ first_fault (given_body asked n numbers.now needs.now m room) }
-{
-    for r in 0..n as usize {
-        need_fault(needs, r)?;
-    }
-    pairs_fault(n, numbers, needs, asked, count, m, room)
-}
-
-// The first refusal of a call, with `room` places to write to.
-fn write_fault(
-    n: u32,
-    numbers: &[u32],
-    needs: &[u32],
-    asked: bool,
-    count: usize,
-    room: usize,
-) -> Result<(), Refused>
-    requires { count ≡ given_needs n needs.now }
-    ensures { result ≡ first_fault (write_checks asked n numbers.now needs.now room) }
-{
-    count_fault(n, numbers.len(), needs.len())?;
-    let m = numbers.len() / 4;
-    body_fault(n, numbers, needs, asked, count, m, room)
-}
-
 // The words of needs of the first `count` registers, after the head.
 fn put_needs(needs: &[u32], count: usize, answer: &mut [u32])
     requires { NeedsFit needs.now count × ((2 * count ≤ length needs.now) × (1 + count ≤ length answer.old)) }
@@ -219,19 +150,75 @@ pub fn put_end(answer: &mut [u32], at: usize)
     answer[at] = WordKind::End.word(sum);
 }
 
-// The whole list with `count` words of needs, in the first places of the buffer. The answer is the count of words.
-fn put_list(n: u32, numbers: &[u32], needs: &[u32], count: usize, answer: &mut [u32]) -> usize
-    requires { GivenIn n numbers.now needs.now
-        × ((count ≡ given_needs n needs.now) × (end_place n numbers.now needs.now < length answer.old)) }
-    ensures { (result ≡ end_place n numbers.now needs.now + 1)
-        × (answer.new ≡ over (words_of n numbers.now needs.now) answer.old) }
-{
-    let m = numbers.len() / 4;
-    put_head(n, m, needs, count, answer);
-    put_pairs(numbers, count, m, answer);
-    let at = delay_list::pair_place(count, m);
-    put_end(answer, at);
-    at + 1
+// What a list is written from: the count of registers, the numbers of the pairs, the needs, and how many words of needs are written.
+#[derive(Clone, Copy)]
+struct Given<'a> {
+    registers: u32,
+    numbers: &'a [u32],
+    needs: &'a [u32],
+    count: usize,
+    ghost counted: { count ≡ given_needs registers needs.now },
+}
+
+impl<'a> Given<'a> {
+    // 14, 15, 16, 19 and 20: pair k.
+    fn pair_fault(self, asked: bool, k: usize) -> Result<(), Refused>
+        requires { 4 * k + 4 ≤ length self.numbers.now }
+        ensures { result ≡ first_fault (given_checks asked self.entry.registers self.entry.numbers.now self.entry.needs.now k) }
+    {
+        let p = given_pair(self.numbers, k);
+        let hold = given_hold(self.needs, p.capture);
+        delay_list::value_fault(self.registers, hold, p, k, k, k)?;
+        order_fault(self.numbers, asked, k)
+    }
+
+    // The pairs one by one, then 2.
+    fn pairs_fault(self, asked: bool, m: usize, room: usize) -> Result<(), Refused>
+        requires { (self.count < 2 ^ register_bits) × ((m < 2 ^ count_bits) × (4 * m ≤ length self.numbers.now)) }
+        ensures { result ≡ first_fault (given_pairs asked self.entry.registers self.entry.numbers.now self.entry.needs.now m room) }
+    {
+        for k in 0..m {
+            self.pair_fault(asked, k)?;
+        }
+        let places = delay_list::pair_place(self.count, m) + 1;
+        check(room < places, Refusal::Room, 0)
+    }
+
+    // The needs register by register, then the pairs and the room.
+    fn body_fault(self, asked: bool, m: usize, room: usize) -> Result<(), Refused>
+        requires { (self.count < 2 ^ register_bits)
+            × ((2 * self.registers ≤ length self.needs.now) × ((m < 2 ^ count_bits) × (4 * m ≤ length self.numbers.now))) }
+        ensures { result ≡ first_fault (given_body asked self.entry.registers self.entry.numbers.now self.entry.needs.now m room) }
+    {
+        for r in 0..self.registers as usize {
+            need_fault(self.needs, r)?;
+        }
+        self.pairs_fault(asked, m, room)
+    }
+
+    // The first refusal of a call, with `room` places to write to.
+    fn fault(self, asked: bool, room: usize) -> Result<(), Refused>
+        ensures { result ≡ first_fault (write_checks asked self.entry.registers self.entry.numbers.now self.entry.needs.now room) }
+    {
+        count_fault(self.registers, self.numbers.len(), self.needs.len())?;
+        let m = self.numbers.len() / 4;
+        self.body_fault(asked, m, room)
+    }
+
+    // The whole list, in the first places of the buffer. The answer is the count of words.
+    fn put(self, answer: &mut [u32]) -> usize
+        requires { GivenIn self.registers self.numbers.now self.needs.now
+            × (end_place self.registers self.numbers.now self.needs.now < length answer.old) }
+        ensures { (result ≡ end_place self.entry.registers self.entry.numbers.now self.entry.needs.now + 1)
+            × (answer.new ≡ over (words_of self.entry.registers self.entry.numbers.now self.entry.needs.now) answer.old) }
+    {
+        let m = self.numbers.len() / 4;
+        put_head(self.registers, m, self.needs, self.count, answer);
+        put_pairs(self.numbers, self.count, m, answer);
+        let at = delay_list::pair_place(self.count, m);
+        put_end(answer, at);
+        at + 1
+    }
 }
 
 // Writes a list, with the order of its pairs asked for or not.
@@ -244,9 +231,14 @@ fn write_by(
 ) -> Result<usize, Refused>
     ensures { WrittenBy asked n numbers.now needs.now answer.old answer.new result }
 {
-    let count = given_needs(n, needs);
-    write_fault(n, numbers, needs, asked, count, answer.len())?;
-    Ok(put_list(n, numbers, needs, count, answer))
+    let given = Given {
+        registers: n,
+        numbers,
+        needs,
+        count: given_needs(n, needs),
+    };
+    given.fault(asked, answer.len())?;
+    Ok(given.put(answer))
 }
 
 // Writes the delay list of n registers whose pairs are given by four numbers each: launch, capture, least, greatest; and whose needs by two for

@@ -7,7 +7,9 @@ use Rattle.free_trials.proofs.seek.Goals as goal
 pub returns-then-period-longer : goal.returns-then-period-longer
 returns-then-period-longer c =
     record {
-      risen = risen-then (risen-then (zeros-risen (still-usable c.requires.0 c.args.list.usable) c.requires.1 c.clear.ensures) c.resume-first.ensures.risen) c.rounds-longer.ensures.risen;
+      risen = risen-then
+          (risen-then (zeros-risen (still-usable c.requires.0 c.args.list.usable) c.requires.1 c.clear.ensures) c.resume-first.ensures.risen)
+          c.rounds-longer.ensures.risen;
       bound = c.rounds-longer.ensures.bound;
     }
 

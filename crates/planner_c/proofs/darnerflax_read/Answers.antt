@@ -4,10 +4,10 @@ use Rattle.planner_c.specs.Coded.{status_of, places_of}
 use Rattle.planner_c.proofs.ToldLaws.{told-case}
 use Rattle.planner_c.proofs.darnerflax_read.Goals as goal
 
-pub returns-in-Refused : goal.returns-in-Refused
+pub returns-in-Err : goal.returns-in-Err
 unfolding read_reply status_of places_of
-returns-in-Refused c = told-case c.read.ensures c.in-Refused.is (c.refuse.ensures.status, c.refuse.ensures.places)
+returns-in-Err c = told-case c.read.ensures c.in-Err.is (c.refuse.ensures.status, c.refuse.ensures.places)
 
-pub returns-in-Read : goal.returns-in-Read
+pub returns-in-Ok : goal.returns-in-Ok
 unfolding read_reply status_of places_of
-returns-in-Read c = told-case c.read.ensures c.in-Read.is (c.tell.ensures.status, c.tell.ensures.places)
+returns-in-Ok c = told-case c.read.ensures c.in-Ok.is (c.tell.ensures.status, c.tell.ensures.places)

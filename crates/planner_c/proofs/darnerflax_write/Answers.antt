@@ -4,10 +4,10 @@ use Rattle.planner_c.specs.Coded.{status_of, places_of}
 use Rattle.planner_c.proofs.ToldLaws.{told-case}
 use Rattle.planner_c.proofs.darnerflax_write.Goals as goal
 
-pub returns-in-Refused : goal.returns-in-Refused
+pub returns-in-Err : goal.returns-in-Err
 unfolding write_reply status_of places_of
-returns-in-Refused c = told-case c.write.ensures c.in-Refused.is (c.refuse.ensures.status, c.refuse.ensures.places)
+returns-in-Err c = told-case c.write.ensures c.in-Err.is (c.refuse.ensures.status, c.refuse.ensures.places)
 
-pub returns-in-Written : goal.returns-in-Written
+pub returns-in-Ok : goal.returns-in-Ok
 unfolding write_reply status_of places_of
-returns-in-Written c = told-case c.write.ensures c.in-Written.is (c.tell.ensures.status, c.tell.ensures.places)
+returns-in-Ok c = told-case c.write.ensures c.in-Ok.is (c.tell.ensures.status, c.tell.ensures.places)

@@ -12,7 +12,8 @@ end_line-last-requires c = rw c.close.ensures (ended-in _ c.requires)
 
 pub returns-then-is_some-2 : goal.returns-then-is_some-2
 returns-then-is_some-2 c =
-    finish-faulty _ (sym c.is_some.ensures ∙ c.if-is_some.false) (rw c.close.ensures at c.end_line-last.ensures) (sym c.is_some-2.ensures ∙ c.if-is_some-2.true)
+    finish-faulty _ (sym c.is_some.ensures ∙ c.if-is_some.false) (rw c.close.ensures at c.end_line-last.ensures)
+    (sym c.is_some-2.ensures ∙ c.if-is_some-2.true)
 
 pub end_fault-requires : goal.end_fault-requires
 end_fault-requires c =
@@ -20,4 +21,5 @@ end_fault-requires c =
 
 pub returns : goal.returns
 returns c =
-    finish-ends _ (sym c.is_some.ensures ∙ c.if-is_some.false) (rw c.close.ensures at c.end_line-last.ensures) (sym c.is_some-2.ensures ∙ c.if-is_some-2.false) c.end_fault.ensures
+    finish-ends _ (sym c.is_some.ensures ∙ c.if-is_some.false) (rw c.close.ensures at c.end_line-last.ensures)
+    (sym c.is_some-2.ensures ∙ c.if-is_some-2.false) c.end_fault.ensures

@@ -2,7 +2,9 @@
 -- Invariant `Remaining`: the checks of register r and later ones decide as the whole run does.
 use Rattle.refusals.proofs.CheckLaws.{Remaining}
 use Rattle.list_format.specs.Write.{given_need_checks, given_pairs}
-use Rattle.write_list.proofs.body_fault.Given as goal
+use Rattle.write_list.proofs.Given.body_fault.Given as goal
 
 abbrev pub invariant-loop-r : goal.invariant-loop-r
-invariant-loop-r l = Remaining (given_need_checks l.needs) (given_pairs l.asked l.n l.numbers l.needs l.m l.room) l.n l.r
+invariant-loop-r l =
+    Remaining (given_need_checks l.self.needs.now)
+    (given_pairs l.asked l.self.registers l.self.numbers.now l.self.needs.now l.m l.room) l.self.registers l.r

@@ -7,8 +7,9 @@ use Rattle.refusals.proofs.CheckLaws.{Remaining}
 use Rattle.refusals.specs.declared.Refusal.TheVariants.{Room}
 use Rattle.list_format.specs.Lists.{place_by}
 use Rattle.list_format.specs.Write.{given_needs, given_checks}
-use Rattle.write_list.proofs.pairs_fault.Given as goal
+use Rattle.write_list.proofs.Given.pairs_fault.Given as goal
 
 abbrev pub invariant-loop-k : goal.invariant-loop-k
 invariant-loop-k l =
-    Remaining (given_checks l.asked l.n l.numbers l.needs) ((ltb l.room (place_by (given_needs l.n l.needs) l.m + 1), Room, 0) ∷ []) l.m l.k
+    Remaining (given_checks l.asked l.self.registers l.self.numbers.now l.self.needs.now)
+    ((ltb l.room (place_by (given_needs l.self.registers l.self.needs.now) l.m + 1), Room, 0) ∷ []) l.m l.k

@@ -3,7 +3,7 @@
 use Rattle.std.proofs.Common.{arith, rules}
 use Rattle.refusals.specs.Checks.{or_check, fault_after}
 use Rattle.refusals.proofs.CheckLaws.{remaining-turn, remaining-stops, remaining-end}
-use Rattle.write_list.proofs.pairs_fault.Goals as goal
+use Rattle.write_list.proofs.Given.pairs_fault.Goals as goal
 
 pub returns-in_err-pair_fault : goal.returns-in_err-pair_fault
 returns-in_err-pair_fault c =
@@ -17,4 +17,4 @@ pub returns : goal.returns
 unfolding or_check fault_after
 returns c =
     let at = c.loop-k in
-    remaining-end _ _ _ at.invariant (omega arith) (rw (c.pair_place-places.ensures, c.requires.0) at c.check.ensures)
+    remaining-end _ _ _ at.invariant (omega arith) (rw (c.pair_place-places.ensures, c.args.self.counted) at c.check.ensures)

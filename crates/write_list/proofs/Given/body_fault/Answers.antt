@@ -2,7 +2,7 @@
 -- Invariant `Remaining`: the checks of register r and later ones decide as the whole run does.
 use Rattle.std.proofs.Common.{arith, rules}
 use Rattle.refusals.proofs.CheckLaws.{remaining-turn, remaining-stops, remaining-end}
-use Rattle.write_list.proofs.body_fault.Goals as goal
+use Rattle.write_list.proofs.Given.body_fault.Goals as goal
 
 pub returns-in_err-need_fault : goal.returns-in_err-need_fault
 returns-in_err-need_fault c =

@@ -1,2 +1,0 @@
--- The laws, which other crates may cite too.
-pub mod RefusalTextLaws
