@@ -19,7 +19,6 @@ use Rattle.list_format.specs.Lists.{registers, pairs}
 use Rattle.list_format.specs.Read.{Reading, reading, read_reply}
 use Rattle.list_format.specs.Write.{Writing, writing_by, writing, write_reply}
 use Rattle.list_format.specs.RoundTrip.{ReadAs, WrittenAs}
-use Rattle.list_format.specs.declared.Counts.{Counts}
 use Rattle.converter.specs.Convert.{Converting, converting, convert_reply, ConvertedAs}
 use Rattle.words.specs.Signed.{signed_word, signed_of}
 use Rattle.words.proofs.SignedLaws.{signed_back}

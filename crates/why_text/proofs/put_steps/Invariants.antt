@@ -1,6 +1,5 @@
 -- `put_steps`: a line for each step.
 -- Invariant `Listing`: the lines of the first i steps are stored.
-use Prim.Native.Nat.{◌-◌}
 use lib.ListN.{length, get_or}
 use Rattle.list_format.specs.Lists.{pairs}
 use Rattle.text_pieces.proofs.PutLaws.{Listing}
