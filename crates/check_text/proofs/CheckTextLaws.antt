@@ -12,7 +12,7 @@ use Rattle.timing.specs.Rules.{Each}
 use Rattle.timing.specs.declared.Pair.{Pair}
 use Rattle.std.specs.Prelude.{Ok, Err}
 use Rattle.refusals.specs.Checks.{number_of, first_fault, no_fault}
-use Rattle.refusals.specs.Reply.{numbers, told}
+use Rattle.refusals.specs.Reply.{numbers}
 use Rattle.refusals.specs.declared.Refused.{Refused}
 use Rattle.refusals.proofs.ReplyLaws.{numbers-none, told-refusal, told-numbers}
 use Rattle.list_format.specs.Lists.{registers, pair_at, PairIn, IsPair, IsUsable}

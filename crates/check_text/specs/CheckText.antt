@@ -1,6 +1,6 @@
 -- What is printed for a schedule that is checked against a list: whether it is admissible, else the first pair that breaks a rule; and the
 -- smallest margin of all.
-use Rattle.std.specs.Prelude.{ℕ, ◌+◌, false, ◌||◌, cond, List, [], ◌++◌, ltb, eqb, ℤ, length}
+use Rattle.std.specs.Prelude.{ℕ, ◌+◌, false, ◌||◌, cond, List, ◌++◌, ltb, eqb, ℤ, length}
 use Rattle.refusals.specs.Reply.{told}
 use Rattle.timing.specs.Limits.{max_period}
 use Rattle.list_format.specs.Lists.{registers, pair_at}

@@ -1,6 +1,5 @@
 -- `put_registers`: a line for each register.
 -- Invariant `Listing`: the lines of the first r registers are stored.
-use Prim.Native.Nat.{◌-◌}
 use Rattle.text_pieces.proofs.PutLaws.{Listing}
 use Rattle.report.specs.Report.{register_width, plan_line}
 use Rattle.report.proofs.put_registers.Given as goal

@@ -1,6 +1,5 @@
 -- `put_timings`: a line for each register.
 -- Invariant `Listing`: the lines of the first r registers are stored.
-use Prim.Native.Nat.{◌-◌}
 use Rattle.text_pieces.proofs.PutLaws.{Listing}
 use Rattle.schedule_text.specs.ScheduleText.{timing_width, timing_line}
 use Rattle.schedule_text.proofs.put_timings.Given as goal
