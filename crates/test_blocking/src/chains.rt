@@ -1,4 +1,6 @@
 // Chains of forced choices, followed straight from the numbers and the needs of a list.
+ghost use Rattle.std.specs.Prelude.{◌<◌, ◌^◌};
+
 use blocking::Blocked;
 use refusals::Refused;
 use test_kit::lists::{List, Pair};
@@ -28,7 +30,9 @@ impl Choice {
         }
     }
 
-    fn time(self, offset: u32) -> u64 {
+    fn time(self, offset: u32) -> u64
+        ensures { result < 2 ^ 32 }
+    {
         match self {
             Choice::Early => 0,
             Choice::Late => u64::from(offset),
