@@ -198,6 +198,17 @@ impl Line {
         }
     }
 
+    // The roots, in line.
+    fn gather(&mut self, n: usize, scratch: &[u32])
+        requires { n ≤ length scratch.now }
+    {
+        for (r, depth) in scratch[..n].iter().enumerate() {
+            if *depth != 0 {
+                self.join(r);
+            }
+        }
+    }
+
     // The register at a place of the line.
     fn at(&self, place: usize) -> Option<usize> {
         if place < self.size {
@@ -205,22 +216,6 @@ impl Line {
         }
         None
     }
-}
-
-// The roots, in line.
-fn gather(n: usize, scratch: &[u32]) -> Line
-    requires { n ≤ length scratch.now }
-{
-    let mut line = Line {
-        registers: [0u16; REGISTERS],
-        size: 0,
-    };
-    for (r, depth) in scratch[..n].iter().enumerate() {
-        if *depth != 0 {
-            line.join(r);
-        }
-    }
-    line
 }
 
 // Along the ends at register r.
@@ -247,7 +242,11 @@ fn walk(list: DelayList, before: &mut [u16], scratch: &mut [u32])
 {
     let mut lasts = [0u16; REGISTERS];
     let ends = pair_ends::link(list, &mut lasts, before);
-    let mut line = gather(list.registers, scratch);
+    let mut line = Line {
+        registers: [0u16; REGISTERS],
+        size: 0,
+    };
+    line.gather(list.registers, scratch);
     for i in 0..list.registers {
         let Some(r) = line.at(i) else {
             return;
