@@ -35,7 +35,7 @@
  * pair, and an end word: 3m + 2 words without needs, 3m + 2 + n with them.
  *
  * No memory is allocated. The most stack that a call was seen to take, in bytes, rounded up (docs/BENCHMARKS.md):
- * read 200, write 110, convert 20,000, check 300, free 20,000, split 400, plan 21,000, why_not 12,000, report 97,000.
+ * read 200, write 140, convert 20,000, check 300, free 20,000, split 400, plan 21,000, why_not 12,000, report 97,000.
  */
 #ifndef DARNERFLAX_H
 #define DARNERFLAX_H
