@@ -15,7 +15,7 @@ fn stored(rt: &impl Print, label: &str, list: List<'_>) -> io::Result<()> {
 pub fn repeats(rt: &impl Print) -> io::Result<()> {
     let mut answer = [9u32; 8];
     into(rt, "0-1 7/10, 0-1 2/4: ", &TWICE, &mut answer)?;
-    plan(rt, "its plan: ", front(&answer, 5))?;
+    plan::<20>(rt, "its plan: ", front(&answer, 5))?;
     let three = [[1, 0, 4, 6], [1, 0, 5, 9], [1, 0, 3, 3]];
     stored(rt, "1-0 4/6, 1-0 5/9, 1-0 3/3: ", needless(2, &three))?;
     let apart = [[1, 0, 1, 3], [0, 1, 7, 10], [1, 0, 0, 2], [0, 1, 8, 11]];

@@ -52,9 +52,9 @@ pub fn pooled(rt: &impl Print) -> io::Result<()> {
         &HOT,
         &mut answer,
     )?;
-    plan(rt, "plan of the first: ", &COLD)?;
-    plan(rt, "plan of the second: ", &HOT)?;
-    plan(rt, "plan of the pooled list: ", front(&answer, 11))?;
+    plan::<24>(rt, "plan of the first: ", &COLD)?;
+    plan::<24>(rt, "plan of the second: ", &HOT)?;
+    plan::<24>(rt, "plan of the pooled list: ", front(&answer, 11))?;
     pool(rt, "the other way round: ", &HOT, &COLD)?;
     pool(rt, "the first with itself: ", &COLD, &COLD)?;
     let none = [[0, 0]; 3];
