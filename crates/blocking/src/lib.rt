@@ -155,7 +155,7 @@ fn prepare(list: DelayList, period: u32, scratch: &mut [u32])
     ensures { Ready list.entry.words.now period list.entry.registers scratch.old scratch.new }
 {
     let common = free_climb::common(list);
-    let offset = common.saturating_sub(period);
+    let offset = timing::less(common, period);
     propagate::prepare(list, period, offset, scratch);
     forced_late::force_late(list, scratch);
 }

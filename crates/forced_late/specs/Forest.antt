@@ -213,7 +213,7 @@ abbrev pub ClashTold : Bool → List ℕ → ℕ → List ℕ → ℕ → Type 0
 ClashTold true ws n S k = Clashes ws n S k
 ClashTold false ws n S k = Clashes ws n S k → ⊥
 
--- a pair of m that does, or none
+-- the first pair of m that does, or none
 abbrev pub ClashAt : List ℕ → ℕ → ℕ → List ℕ → Option ℕ → Type 0
-ClashAt ws n m S (Some k) = (k < m) × Clashes ws n S k
+ClashAt ws n m S (Some k) = ((k < m) × Clashes ws n S k) × ((j : ℕ) → j < k → Clashes ws n S j → ⊥)
 ClashAt ws n m S None = (j : ℕ) → j < m → Clashes ws n S j → ⊥

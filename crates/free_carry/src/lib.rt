@@ -10,6 +10,7 @@ ghost use Rattle.free_rounds.specs.Raise.{Raising};
 
 use delay_list::DelayList;
 use free_rounds::PARENTS;
+use timing::larger;
 
 // The register that a rule starts from, or r where the list has no such rule.
 fn source(list: DelayList, rule: u16, r: usize) -> usize {
@@ -122,7 +123,7 @@ pub fn carry(list: DelayList, x: &mut [u32], parents: &mut [u16; PARENTS], perio
     let mut most = 0;
     for r in 0..x.len() {
         let longer = met.branch(list, x, parents, period, r);
-        most = most.max(longer);
+        most = larger(most, longer);
     }
     most
 }

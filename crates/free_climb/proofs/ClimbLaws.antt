@@ -2,13 +2,13 @@
 use Prim.Native.Nat.{ℕ, suc, ◌+◌, ◌-◌, ◌≤◌, ◌<◌, max, zero-le}
 use mathlib.Core.List.{List}
 use mathlib.Core.Logic.{◌⊎◌, inl, inr}
-use mathlib.Core.Path.{◌≡◌, ap}
+use mathlib.Core.Path.{◌≡◌, ◌∙◌, ap}
 use native.Mathlib.Nat.{sub-zero}
 use native.Mathlib.Omega.{arith}
 use lib.ListN.{length}
 use Rattle.timing.specs.declared.Pair.{Pair}
-use Rattle.list_format.specs.Lists.{registers, pair_count, pair_at, pairs_from, pairs, IsPair}
-use Rattle.list_format.proofs.ListLaws.{pairs-in-range, still-usable}
+use Rattle.list_format.specs.Lists.{registers, pair_count, pair_at, pairs_from, pairs, IsPair, UsableList}
+use Rattle.list_format.proofs.ListLaws.{pairs-in-range}
 use Rattle.free_laws.specs.Free.{common}
 use Rattle.free_laws.proofs.FreeLaws.{common-pos}
 use Rattle.free_laws.specs.Constraint.{Bound}
@@ -105,24 +105,28 @@ module _ {ws : List ℕ} {count t : ℕ} {x : List ℕ} (p : Trial ws count t x)
 pub trial-longer : {ws : List ℕ} {count s b t : ℕ} {x : List ℕ} → Trial ws count s x → Bound (pairs ws) b → t ≡ max s b → Trial ws count t x
 trial-longer p h q = record { list = p.list; pos = omega (arith, p.pos, q); bound = rw q (bound-max p.bound h) }
 
-module _ {ws : List ℕ} {count s : ℕ} {x y : List ℕ} (p : Trial ws count s x) (e : length y ≡ length x) where
+module _ {ws : List ℕ} {n count : ℕ} (r : UsableList ws n count) where
   -- a trial of u, with other times
-  trial-of : {u : ℕ} → 1 ≤ u → Bound (pairs ws) u → Trial ws count u y
-  trial-of pos b = record { list = still-usable e p.list; pos = pos; bound = b }
+  pub trial-of : {u : ℕ} {x : List ℕ} → length x ≡ registers ws → 1 ≤ u → Bound (pairs ws) u → Trial ws count u x
+  trial-of e pos b = record { list = record { usable = r.usable; registers_are = e; pairs_are = r.pairs_are }; pos = pos; bound = b }
+
+module _ {ws : List ℕ} {count s : ℕ} {x y : List ℕ} (p : Trial ws count s x) (e : length y ≡ length x) where
+  other : {u : ℕ} → 1 ≤ u → Bound (pairs ws) u → Trial ws count u y
+  other pos b = trial-of p.list (e ∙ p.list.registers_are) pos b
 
   pub trial-kept : Trial ws count s y
-  trial-kept = trial-of p.pos p.bound
+  trial-kept = other p.pos p.bound
 
   module _ {o : Ascent} (a : Ascended ws y o) where
     pub trial-onward : {t : ℕ} → o ≡ Onward t → Trial ws count t y
     trial-onward q =
         let u = a.onward _ q in
-        trial-of u.0 u.1
+        other u.0 u.1
 
     pub trial-undecided : {t : ℕ} → o ≡ Undecided t → Trial ws count t y
     trial-undecided q =
         let u = a.undecided _ q in
-        trial-of u.0 u.1
+        other u.0 u.1
 
     pub trial-left : {t : ℕ} → (o ≡ Onward t) ⊎ (o ≡ Undecided t) → Trial ws count t y
     trial-left (inl q) = trial-onward q
@@ -131,7 +135,7 @@ module _ {ws : List ℕ} {count s : ℕ} {x y : List ℕ} (p : Trial ws count s 
   module _ {told : ℕ} (h : Tried ws s y told) where
     -- a longer period was told
     pub trial-next : Trial ws count told y
-    trial-next = trial-of (omega (arith, p.pos, h.onward)) h.bound
+    trial-next = other (omega (arith, p.pos, h.onward)) h.bound
 
     -- the period itself was told: it is the free period
     pub trial-settled : told ≡ s → Climbed ws y s

@@ -13,7 +13,7 @@ ghost use Rattle.free_climb.specs.Climbed.{Alone, Climbed, Ascended};
 use delay_list::DelayList;
 use free_rounds::NO_RULE;
 use pair_ends::{Ends, REGISTERS};
-use timing::Pair;
+use timing::{Pair, larger, less};
 
 // The shortest period.
 const SHORTEST: u32 = 1;
@@ -25,7 +25,7 @@ fn alone(p: Pair) -> u32
     if p.launch == p.capture {
         return p.greatest;
     }
-    p.greatest.saturating_sub(p.least)
+    less(p.greatest, p.least)
 }
 
 // The longest period that a pair alone asks for, or 1.
@@ -36,7 +36,7 @@ fn lowest(list: DelayList) -> u32
     let mut most = SHORTEST;
     for k in 0..list.pairs {
         let p = list.pair(k);
-        most = most.max(alone(p));
+        most = larger(most, alone(p));
     }
     most
 }
@@ -48,7 +48,7 @@ pub fn common(list: DelayList) -> u32
     let mut most = SHORTEST;
     for k in 0..list.pairs {
         let p = list.pair(k);
-        most = most.max(p.greatest);
+        most = larger(most, p.greatest);
     }
     most
 }
@@ -193,7 +193,7 @@ fn come_down(
     ensures { Trial list.entry.words.now list.entry.pairs result x.new }
 {
     let shown = free_descent::descend(list, x, parents, ends, low);
-    low.max(shown)
+    larger(low, shown)
 }
 
 // Trials from a period on, and a descent where they do not come to an end.

@@ -11,6 +11,7 @@ ghost use Rattle.free_laws.specs.Constraint.{Bound};
 use delay_list::DelayList;
 use free_forest::{ASIDE, Across, Forest, Here, Link, Span};
 use pair_ends::{Ends, REGISTERS};
+use timing::larger;
 
 // ---- keys: up to which period a register has a broken rule into it, or longer, and the rule
 
@@ -123,7 +124,7 @@ impl Keys {
         for k in 0..list.pairs {
             let p = list.pair(k);
             let r = (p.capture as usize) % REGISTERS;
-            self.key[r] = self.key[r].max(first_key(p.greatest, low, k));
+            self.key[r] = larger(self.key[r], first_key(p.greatest, low, k));
         }
     }
 }
@@ -192,7 +193,7 @@ impl Descent {
         let l = a.rule_into(h, self.low);
         let source = self.forest.setups(a.register);
         let until = l.broken_until(source, h.setups, self.span());
-        most.max(key_of(until, end ^ 1))
+        larger(most, key_of(until, end ^ 1))
     }
 
     // Of the rules that end at register r the largest key.

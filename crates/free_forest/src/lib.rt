@@ -8,6 +8,7 @@ ghost use Rattle.std.specs.Prelude.{◌≡◌, ◌<◌, length};
 use delay_list::DelayList;
 use free_rounds::NO_RULE;
 use pair_ends::REGISTERS;
+use timing::smaller;
 
 // ---- rules
 
@@ -155,7 +156,7 @@ impl Link {
             return 0;
         }
         let further = (self.asked - self.there - 1) / (above - own);
-        s.level.min(s.low.wrapping_add(further))
+        smaller(s.level, s.low.wrapping_add(further))
     }
 }
 

@@ -10,7 +10,7 @@ ghost use Rattle.free_laws.specs.Raise.{raise_to, relax_to, Risen, RoundTo};
 ghost use Rattle.free_rounds.specs.Raise.{Raisable, Relaxable, Raising};
 
 use delay_list::DelayList;
-use timing::Pair;
+use timing::{Pair, smaller};
 
 // Places for the parent of each register: the rule that raised it last, 2k for setup of pair k and 2k + 1 for its hold.
 pub const PARENTS: usize = timing::MAX_REGISTERS as usize;
@@ -35,7 +35,7 @@ fn raise(
     ensures { x.new ≡ raise_to max_timing r (v - allowance) x.old }
 {
     if x[r] + allowance < v {
-        x[r] = timing::MAX_TIMING.min(v - allowance);
+        x[r] = smaller(timing::MAX_TIMING, v - allowance);
         parents[r] = rule;
         return r;
     }

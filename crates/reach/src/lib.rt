@@ -14,7 +14,7 @@ ghost use Rattle.reach.specs.Settling.{PairReaching, Reaching, Guided, ClosedAt,
 use delay_list::DelayList;
 use pair_ends::Ends;
 use register_heap::Heap;
-use timing::Pair;
+use timing::{Pair, larger, smaller};
 
 // Register r has at least the reach v; whether that raised it.
 fn raise(reach: &mut [u32], r: usize, v: u32) -> bool
@@ -34,7 +34,7 @@ fn raise_capture(p: Pair, top: u32, reach: &mut [u32]) -> bool
     ensures { Raised p.capture (ahead top p reach.old) reach.old reach.new result }
 {
     let half = (top + p.greatest + 1) / 2;
-    let v = p.greatest.max(reach[p.launch as usize].min(half));
+    let v = larger(p.greatest, smaller(reach[p.launch as usize], half));
     raise(reach, p.capture as usize, v)
 }
 
@@ -43,7 +43,7 @@ fn raise_launch(p: Pair, top: u32, reach: &mut [u32]) -> bool
     requires { PairReaching p top reach.old }
     ensures { Raised p.launch (behind top p reach.old) reach.old reach.new result }
 {
-    let v = reach[p.capture as usize].min(top - p.least);
+    let v = smaller(reach[p.capture as usize], top - p.least);
     raise(reach, p.launch as usize, v)
 }
 
@@ -52,7 +52,7 @@ fn asked(p: Pair, reach: &[u32]) -> u32
     requires { p.launch < length reach.now }
     ensures { result ≡ min (reach_of reach.now p.launch) p.greatest }
 {
-    reach[p.launch as usize].min(p.greatest)
+    smaller(reach[p.launch as usize], p.greatest)
 }
 
 // What came of a raise along a pair: the register that was raised, if it was, and the period that the pair asks for.
@@ -114,7 +114,7 @@ impl<'a> Listed<'a> {
         let mut most = 1;
         for k in 0..self.list.pairs {
             let p = self.list.pair(k);
-            most = most.max(asked(p, reach));
+            most = larger(most, asked(p, reach));
         }
         most
     }
@@ -158,7 +158,7 @@ impl<'a> Listed<'a> {
         let mut most = 0;
         for k in 0..self.list.pairs {
             let a = self.cross(k, true, reach);
-            most = most.max(a.asks);
+            most = larger(most, a.asks);
         }
         most
     }
@@ -188,7 +188,7 @@ impl Waiting {
     fn enter(&mut self, a: Along, reach: &[u32])
         ensures { self.new.most ≡ max self.old.most a.asks }
     {
-        self.most = self.most.max(a.asks);
+        self.most = larger(self.most, a.asks);
         if let Some(r) = a.raised {
             self.join(reach, r);
         }

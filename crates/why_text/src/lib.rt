@@ -216,7 +216,7 @@ fn offset_at(words: &[u32], period: u32) -> u32
         registers: words::head_registers(words[0]) as usize,
         pairs: words::head_pairs(words[0]) as usize,
     };
-    free_climb::common(list).saturating_sub(period)
+    timing::less(free_climb::common(list), period)
 }
 
 // The register and the two chains at it, whose steps stand one after the other.
@@ -260,7 +260,7 @@ fn put_refused_why(text: &mut [u8], refused: Refused) -> usize
     ensures { Put line_width (caused_line (number_of refused.refusal) refused.place (why_cause (number_of refused.refusal)))
         text.old 0 text.new result }
 {
-    refusal_text::put_caused(text, refused, why_cause(refused.refusal))
+    refusal_text::tell_caused(text, refused, why_cause(refused.refusal))
 }
 
 // What blocks the period, for a run of words.

@@ -4,4 +4,4 @@ use Rattle.blocking.proofs.prepare.Goals as goal
 
 pub returns : goal.returns
 returns c =
-    made-ready (rw (c.saturating_sub-offset.ensures, c.common-common.ensures) at c.prepare.ensures) c.force_late.ensures
+    made-ready (rw (c.less-offset.ensures, c.common-common.ensures) at c.prepare.ensures) c.force_late.ensures
