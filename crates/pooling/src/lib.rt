@@ -142,7 +142,7 @@ fn put_pooled(first: Layout, second: Layout, n: u32, count: usize, answer: &mut 
     requires { (n ≡ registers first.words.now) × PoolRoom first.words.now second.words.now first.needs count (length answer.old) }
     ensures { answer.new ≡ over (pooled first.entry.words.now second.entry.words.now) answer.old }
 {
-    converter::put_front(first, n, count, answer);
+    converter::put_front(first.words, n, count, first.needs, answer);
     put_pairs(first, second, count, answer);
     write_list::put_end(answer, delay_list::pair_place(first.needs, count));
 }

@@ -11,7 +11,7 @@ pub put_front-requires : goal.put_front-requires
 put_front-requires c =
     let g = c.requires.1 in
     let l = accepted-in c.args.first.words.now g.first in
-    ((omega (arith, c.requires.0, l.head.most), omega (arith, g.few)), omega (arith, g.places))
+    ((omega (arith, c.requires.0, l.head.most), omega (arith, g.few)), (c.args.first.inside, omega (arith, g.places)))
 
 pub pair_place-requires : goal.pair_place-requires
 pair_place-requires c = (omega (arith, front-needs c.requires.1), omega (arith, c.requires.1.few))
