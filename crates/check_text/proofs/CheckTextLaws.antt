@@ -26,7 +26,7 @@ use Rattle.checker.proofs.CheckLaws.{broken-below}
 use Rattle.text_pieces.specs.Pieces.{Put, letters}
 use Rattle.text_pieces.specs.Saying.{Said, SaidAs, trouble_of, text as say_text, trouble as say_trouble}
 use Rattle.text_pieces.proofs.SaidLaws.{said-text, said-trouble}
-use Rattle.refusal_text.specs.RefusalText.{line_width, caused_line, fault_line}
+use Rattle.refusal_text.specs.RefusalText.{line_width, caused_line, fault_line_of}
 use Rattle.list_bytes.specs.ListBytes.{list_of}
 use Rattle.scan.specs.declared.Numbers.{Numbers}
 use Rattle.scan.specs.declared.FaultAt.{FaultAt}
@@ -128,11 +128,11 @@ pair_put f {w = w} {at} {next} {text} {text'} is put =
 
 module _ {ts was now : List ℕ} {r : Scanned} (a : ScanAs false ts was now r) where
   pub text-faulty : (bs : List ℕ) (t : ℕ) {wrong : FaultAt} {next : ℕ} {text text' : List ℕ} → r ≡ Err wrong
-      → Put line_width (fault_line wrong) text 0 text' next
+      → Put line_width (fault_line_of wrong) text 0 text' next
       → SaidAs text_places (check_text bs t ts) text text' (Err (trouble_of next))
   unfolding scanned_said
   text-faulty bs t {wrong} e put =
-      let here : check_text bs t ts ≡ say_trouble (fault_line wrong) = rw (← a.answer, e) in
+      let here : check_text bs t ts ≡ say_trouble (fault_line_of wrong) = rw (← a.answer, e) in
       rw here (said-trouble put (omega arith))
 
   module _ {found : Numbers} (e : r ≡ Ok found) where

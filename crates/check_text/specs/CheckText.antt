@@ -12,7 +12,7 @@ use Rattle.checker.specs.declared.Checking.{Checking}
 use Rattle.checker.specs.declared.Checking.TheVariants.{NoPairs, Admissible, Broken}
 use Rattle.text_pieces.specs.Pieces.{letters, signed, named, space, newline, number_width, signed_width}
 use Rattle.text_pieces.specs.Saying.{Saying, text, trouble}
-use Rattle.refusal_text.specs.RefusalText.{caused_line, fault_line}
+use Rattle.refusal_text.specs.RefusalText.{caused_line, fault_line_of}
 use Rattle.list_bytes.specs.ListBytes.{list_of}
 use Rattle.std.specs.Prelude.{Ok, Err}
 use Rattle.scan.specs.Scan.{Scanned, scanned, stored_of}
@@ -109,7 +109,7 @@ checked_said ws period xs = told (check_refused ws period (length xs)) (answer_s
 -- from the numbers xs of the text of a schedule: a fault in the text comes first. The faults of the lines of a list do not occur:
 -- `no-line-fault` in scan's proofs
 unfoldable pub scanned_said : List ℕ → ℕ → Scanned → List ℕ → Saying
-scanned_said ws period (Err wrong) xs = trouble (fault_line wrong)
+scanned_said ws period (Err wrong) xs = trouble (fault_line_of wrong)
 scanned_said ws period (Ok found) xs = checked_said ws period xs
 
 -- what is said for the bytes bs of a list, a period, and the text ts of a schedule

@@ -177,7 +177,7 @@ fn put_refused_check(
         text.old 0 text.new result }
 {
     let cause = check_cause(words, period, count, refused.refusal);
-    refusal_text::put_caused(text, refused, cause)
+    refusal_text::tell_caused(text, refused, cause)
 }
 
 // The check of a schedule against a run of words.
@@ -232,7 +232,7 @@ pub fn check_text(
     let mut numbers = [0u32; MAX_NUMBERS];
     match scan::scan(timings, false, &mut numbers) {
         Err(wrong) => {
-            let size = refusal_text::put_fault(text, wrong);
+            let size = refusal_text::tell_fault(text, wrong);
             Err(Trouble { size })
         }
         Ok(found) => put_against(text, bytes, period, &numbers[..found.count]),

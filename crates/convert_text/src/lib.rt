@@ -30,7 +30,7 @@ pub fn put_converted(out: &mut [u8], words: &[u32]) -> Result<usize, Trouble>
     let mut converted = [0u32; MAX_WORDS];
     match converter::convert(words, &mut converted) {
         Err(refused) => {
-            let size = refusal_text::put_refusal(out, refused);
+            let size = refusal_text::tell_refusal(out, refused);
             Err(Trouble { size })
         }
         Ok(count) => Ok(put_words(out, &converted[..count])),

@@ -30,7 +30,7 @@ use Rattle.converter.specs.Convert.{converted}
 use Rattle.text_pieces.specs.Pieces.{Put}
 use Rattle.text_pieces.specs.Saying.{Said, SaidAs, trouble_of, text as say_text}
 use Rattle.text_pieces.proofs.SaidLaws.{said-text, said-trouble}
-use Rattle.refusal_text.specs.RefusalText.{line_width, refusal_line, refused_saying, fault_line}
+use Rattle.refusal_text.specs.RefusalText.{line_width, refusal_line, refused_saying, fault_line_of}
 use Rattle.list_bytes.specs.ListBytes.{max_words}
 use Rattle.scan.specs.declared.Numbers.{Numbers}
 use Rattle.scan.specs.declared.FaultAt.{FaultAt}
@@ -253,10 +253,10 @@ module _ (bs : List ℕ) (needs : ℕ) (xs : List ℕ) {out out' : List ℕ} {r 
 
 module _ {text xs : List ℕ} {r : Scanned} (a : ScanAs true text (zeros max_numbers) xs r) where
   pub make-faulty : {wrong : FaultAt} {next : ℕ} {out out' : List ℕ} → r ≡ Err wrong
-      → Put line_width (fault_line wrong) out 0 out' next → MadeAs (made text) out out' (Err (trouble_of next))
+      → Put line_width (fault_line_of wrong) out 0 out' next → MadeAs (made text) out out' (Err (trouble_of next))
   unfolding made_of
   make-faulty {wrong} e put =
-      let here : made text ≡ error_line (fault_line wrong) = rw (← a.answer, e) in
+      let here : made text ≡ error_line (fault_line_of wrong) = rw (← a.answer, e) in
       rw here (made_fault put)
 
   module _ {found : Numbers} (e : r ≡ Ok found) where

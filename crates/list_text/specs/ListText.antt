@@ -11,7 +11,7 @@ use Rattle.text_pieces.specs.Pieces.{number, space, newline, number_width}
 use Rattle.std.specs.Prelude.{Option, None, Some, Ok, Err}
 use Rattle.scan.specs.Scan.{Scanned, line_of, scanned, stored_of}
 use Rattle.text_pieces.specs.Saying.{Saying, text}
-use Rattle.refusal_text.specs.RefusalText.{line_width, refusal_line, refusal_line_in, refused_saying, fault_line}
+use Rattle.refusal_text.specs.RefusalText.{line_width, refusal_line, refusal_line_in, refused_saying, fault_line_of}
 use Rattle.list_bytes.specs.ListBytes.{max_words, list_of}
 use Rattle.convert_text.specs.ConvertText.{Product, error_line, converted_from}
 
@@ -116,7 +116,7 @@ made_with bs needs n xs = made_from bs needs n (drop needs xs) (needs_given need
 
 -- from what is scanned
 unfoldable pub made_of : List ℕ → Scanned → List ℕ → Product
-made_of bs (Err wrong) xs = error_line (fault_line wrong)
+made_of bs (Err wrong) xs = error_line (fault_line_of wrong)
 made_of bs (Ok found) xs = made_with bs found.needs (get_or xs 0 0) (drop 1 xs)
 
 -- what is made of a text

@@ -135,7 +135,7 @@ fn put_words(text: &mut [u8], words: &[u32]) -> Result<usize, Trouble>
     let mut numbers = [0u32; LIST_NUMBERS];
     match read_list::read(words, &mut numbers) {
         Err(refused) => {
-            let size = refusal_text::put_refusal(text, refused);
+            let size = refusal_text::tell_refusal(text, refused);
             Err(Trouble { size })
         }
         Ok(counts) => Ok(put_read(text, counts, &numbers)),
@@ -182,8 +182,8 @@ fn put_refused(out: &mut [u8], text: &[u8], needs: usize, refused: Refused) -> u
     ensures { Put line_width (refused_line text.now needs (number_of refused.refusal) refused.place) out.old 0 out.new result }
 {
     match last_of(needs, refused) {
-        None => refusal_text::put_refusal(out, refused),
-        Some(last) => refusal_text::put_refusal_in(out, refused, scan::line_of(text, last)),
+        None => refusal_text::tell_refusal(out, refused),
+        Some(last) => refusal_text::tell_refusal_in(out, refused, scan::line_of(text, last)),
     }
 }
 
@@ -251,7 +251,7 @@ pub fn make(text: &[u8], out: &mut [u8; MAX_BYTES]) -> Result<usize, Trouble>
     let mut numbers = [0u32; MAX_NUMBERS];
     match scan::scan(text, true, &mut numbers) {
         Err(wrong) => {
-            let size = refusal_text::put_fault(out, wrong);
+            let size = refusal_text::tell_fault(out, wrong);
             Err(Trouble { size })
         }
         Ok(found) => put_numbers(out, text, found.needs, &numbers[..found.count]),

@@ -12,54 +12,65 @@ ghost use Rattle.convert_text.specs.ConvertText.{MadeAs};
 ghost use Rattle.pool_text.specs.PoolText.{pool_meaning, refusal_line_of_neither, refusal_line_of_one, refusal_line_of, pooled_from, pooled_bytes};
 
 use list_bytes::{MAX_BYTES, MAX_WORDS};
-use pooling::{PoolPart, PoolRefused};
-use refusals::{Refusal, Refused};
+use pooling::PoolRefused;
 use text_pieces::{Trouble, put_bytes, put_named, put_refused};
 
-// What a refusal of pooling means; any that is not of both lists together is of one of them, or of the call.
-#[tactic(auto, unfolding(refusal_text::specs::RefusalText::words_for, crate::specs::PoolText::pool_meaning, refusals::specs::Checks::number_of))]
-fn pool_words(refusal: Refusal) -> &'static [u8]
-    ensures is { result.now ≡ pool_meaning (number_of refusal) }
+// What a refusal of pooling means; any other number is of one of the lists, or of the call.
+#[tactic(auto, unfolding(refusal_text::specs::RefusalText::words_for, crate::specs::PoolText::pool_meaning))]
+fn pool_words(number: u32) -> &'static [u8]
+    ensures is { result.now ≡ pool_meaning number }
     ensures short { length result.now ≤ words_width }
 {
-    match refusal {
-        Refusal::Unlike => b" the lists have other counts of registers or other needs\n",
-        Refusal::Pairs => b" the pooled list has more than 2048 pairs\n",
-        _ => refusal_text::refusal_words(refusal),
+    match number {
+        21 => b" the lists have other counts of registers or other needs\n",
+        22 => b" the pooled list has more than 2048 pairs\n",
+        _ => refusal_text::number_words(number),
     }
 }
 
 // The line of a refusal of neither list.
-fn put_refusal_of_neither(text: &mut [u8], refused: Refused) -> usize
+fn put_refusal_of_neither(text: &mut [u8], number: u32, place: usize) -> usize
     requires { line_width ≤ length text.old }
-    ensures { Put line_width (refusal_line_of_neither (number_of refused.refusal) refused.place) text.old 0 text.new result }
+    ensures { Put line_width (refusal_line_of_neither number place) text.old 0 text.new result }
 {
-    let a = put_refused(text, refused.refusal.number(), refused.place, b':');
-    put_bytes(text, a, pool_words(refused.refusal))
+    let a = put_refused(text, number, place, b':');
+    put_bytes(text, a, pool_words(number))
 }
 
 // The line of a refusal of one of the two, with the list.
-fn put_refusal_of_one(text: &mut [u8], list: u32, refused: Refused) -> usize
+fn put_refusal_of_one(text: &mut [u8], list: u32, number: u32, place: usize) -> usize
     requires { line_width ≤ length text.old }
-    ensures { Put line_width (refusal_line_of_one list (number_of refused.refusal) refused.place) text.old 0 text.new result }
+    ensures { Put line_width (refusal_line_of_one list number place) text.old 0 text.new result }
 {
-    let a = put_refused(text, refused.refusal.number(), refused.place, b' ');
+    let a = put_refused(text, number, place, b' ');
     let b = put_named(text, a, b"(list ", list as u64, b')');
     let c = put_bytes(text, b, b":");
-    put_bytes(text, c, pool_words(refused.refusal))
+    put_bytes(text, c, pool_words(number))
 }
 
-// The line of a refusal of a call with two lists, with the list that it is of, if it is of one.
-pub fn put_refusal_of(text: &mut [u8], why: PoolRefused) -> usize
+// The line of a refusal of a call with two lists, with the list, 1 or 2; 0: it is of neither.
+pub fn put_refusal_of(text: &mut [u8], list: u32, number: u32, place: usize) -> usize
+    requires { line_width ≤ length text.old }
+    ensures { Put line_width (refusal_line_of list number place) text.old 0 text.new result }
+{
+    if list == 0 {
+        return put_refusal_of_neither(text, number, place);
+    }
+    put_refusal_of_one(text, list, number, place)
+}
+
+// The same, of a refusal as pooling tells it.
+pub fn tell_refusal_of(text: &mut [u8], why: PoolRefused) -> usize
     requires { line_width ≤ length text.old }
     ensures { Put line_width (refusal_line_of (number_of_part why.«of») (number_of why.refused.refusal) why.refused.place)
         text.old 0 text.new result }
 {
-    match why.of {
-        PoolPart::Call => put_refusal_of_neither(text, why.refused),
-        PoolPart::First => put_refusal_of_one(text, 1, why.refused),
-        PoolPart::Second => put_refusal_of_one(text, 2, why.refused),
-    }
+    put_refusal_of(
+        text,
+        why.of.number(),
+        why.refused.refusal.number(),
+        why.refused.place,
+    )
 }
 
 // The bytes of the pooled list; or the line of a refusal.
@@ -70,7 +81,7 @@ fn put_pooled<'a>(out: &mut [u8], first: &'a [u32], second: &'a [u32]) -> Result
     let mut pooled = [0u32; MAX_WORDS];
     match pooling::pool(first, second, &mut pooled) {
         Err(why) => {
-            let size = put_refusal_of(out, why);
+            let size = tell_refusal_of(out, why);
             Err(Trouble { size })
         }
         Ok(count) => Ok(convert_text::put_words(out, &pooled[..count])),

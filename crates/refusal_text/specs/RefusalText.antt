@@ -1,10 +1,9 @@
 -- What is printed for a refusal, and for a text that cannot be read: one line, which says in plain words what is wrong.
-use Rattle.std.specs.Prelude.{ℕ, ◌+◌, cond, List, [], ◌∷◌, ◌++◌, eqb, Option, None, Some}
+use Rattle.std.specs.Prelude.{ℕ, ◌+◌, cond, List, [], ◌∷◌, ◌++◌, ltb, eqb, Option, None, Some}
 use Prim.Native.String.{String}
 use Rattle.refusals.specs.Checks.{number_of}
 use Rattle.text_pieces.specs.Pieces.{letters, named, space, number_width, refused_at}
 use Rattle.text_pieces.specs.Saying.{Saying, trouble as say_trouble}
-use Rattle.scan.specs.declared.Place.{Place}
 use Rattle.scan.specs.declared.FaultAt.{FaultAt}
 use Rattle.scan.specs.declared.TextFault.{TextFault}
 use Rattle.scan.specs.declared.TextFault.TheVariants.{BadByte, LargeNumber, BadFirstLine, BadLine, TooManyNumbers, NoNumber, TooLong, OtherPairs}
@@ -94,15 +93,30 @@ cause_number Count = 33
 cause_number Timing = 34
 
 -- what is wrong with a text
-abbrev pub trouble : TextFault → List ℕ
-trouble BadByte = letters " only digits, spaces, commas and comments may stand here\n"
-trouble LargeNumber = letters " a number is above 4294967295\n"
-trouble BadFirstLine = letters " the first line holds the count of registers, or that and the count of pairs\n"
-trouble BadLine = letters " a line holds two needs, before all pairs, or the four numbers of a pair\n"
-trouble TooManyNumbers = letters " too many numbers: a text has at most 9217, for 512 registers and 2048 pairs\n"
-trouble NoNumber = letters " the text holds no number\n"
-trouble TooLong = letters " the text is longer than 131072 bytes\n"
-trouble OtherPairs = letters " the first line says another number of pairs\n"
+abbrev pub troubles : List (ℕ × String)
+troubles =
+    (1, " only digits, spaces, commas and comments may stand here\n")
+    ∷ (2, " a number is above 4294967295\n")
+    ∷ (3, " the first line holds the count of registers, or that and the count of pairs\n")
+    ∷ (4, " a line holds two needs, before all pairs, or the four numbers of a pair\n")
+    ∷ (5, " too many numbers: a text has at most 9217, for 512 registers and 2048 pairs\n")
+    ∷ (6, " the text holds no number\n")
+    ∷ (8, " the first line says another number of pairs\n")
+    ∷ []
+
+unfoldable pub trouble : ℕ → List ℕ
+trouble = words_for troubles (λ fault. letters " the text is longer than 131072 bytes\n")
+
+-- the number of what is wrong with a text
+unfoldable pub fault_number : TextFault → ℕ
+fault_number BadByte = 1
+fault_number LargeNumber = 2
+fault_number BadFirstLine = 3
+fault_number BadLine = 4
+fault_number TooManyNumbers = 5
+fault_number NoNumber = 6
+fault_number TooLong = 7
+fault_number OtherPairs = 8
 
 -- the line of a refusal, with the words for its cause
 unfoldable pub caused_line : ℕ → ℕ → ℕ → List ℕ
@@ -120,14 +134,21 @@ refused_saying number place = say_trouble (refusal_line number place)
 unfoldable pub refusal_line_in : ℕ → ℕ → ℕ → List ℕ
 refusal_line_in number place line = refused_at number place space ++ (named (letters "(line ") line closing ++ (letters ":" ++ meaning number))
 
--- the byte at fault, or the end of the text
-unfoldable pub byte_words : Option ℕ → List ℕ
-byte_words (Some byte) = named (letters " byte ") byte colon
-byte_words None = letters " end:"
+-- the byte at fault; 256 is the end of the text
+unfoldable pub byte_words : ℕ → List ℕ
+byte_words byte = cond (ltb byte 256) (named (letters " byte ") byte colon) (letters " end:")
 
-unfoldable pub place_words : Place → Option ℕ → List ℕ
-place_words place byte =
-    named (letters "line ") place.line comma ++ (named (letters " column ") place.column comma ++ byte_words byte)
+-- the byte of a text, or that for its end
+unfoldable pub end_number : Option ℕ → ℕ
+end_number (Some byte) = byte
+end_number None = 256
 
-unfoldable pub fault_line : FaultAt → List ℕ
-fault_line wrong = place_words wrong.place wrong.byte ++ trouble wrong.fault
+unfoldable pub place_words : ℕ → ℕ → ℕ → List ℕ
+place_words line column byte = named (letters "line ") line comma ++ (named (letters " column ") column comma ++ byte_words byte)
+
+unfoldable pub fault_line : ℕ → ℕ → ℕ → ℕ → List ℕ
+fault_line fault line column byte = place_words line column byte ++ trouble fault
+
+-- the line of a fault that the reader of a text found
+unfoldable pub fault_line_of : FaultAt → List ℕ
+fault_line_of wrong = fault_line (fault_number wrong.fault) wrong.place.line wrong.place.column (end_number wrong.byte)

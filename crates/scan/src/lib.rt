@@ -115,6 +115,7 @@ impl State {
     }
 
     // A digit more.
+    #[inline(always)]
     fn digit(self, d: u32) -> State
         requires { d < 10 }
         ensures { result ≡ with_digit self d }
@@ -163,6 +164,7 @@ impl State {
     }
 
     // The end of a number, if one has begun.
+    #[inline(always)]
     fn close(self) -> State
         ensures { result ≡ number_ended self }
     {
@@ -231,6 +233,7 @@ impl State {
     }
 
     // The end of a line.
+    #[inline(always)]
     fn end_line(self) -> State
         requires { StateIn self }
         ensures { result ≡ line_ended self }
@@ -251,6 +254,7 @@ impl State {
     }
 
     // A byte in a line, outside comments.
+    #[inline(always)]
     fn step_in_line(self, byte: u8) -> State
         requires { StateIn self }
         ensures { result ≡ step_in_line self byte }
@@ -273,7 +277,8 @@ impl State {
         self.digit((byte - b'0') as u32)
     }
 
-    // A byte more.
+    // A byte more. It is put into its callers, with all that it calls, so that the state is not stored anew for each byte.
+    #[inline(always)]
     fn step(self, byte: u8) -> State
         requires { StateIn self }
         ensures { result ≡ step self byte }

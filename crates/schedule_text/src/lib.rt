@@ -71,7 +71,7 @@ fn put_free_words(text: &mut [u8], words: &[u32]) -> Result<usize, Trouble>
     let mut answer = [0u32; REGISTER_PLACES];
     match free_schedule::free(words, &mut answer) {
         Err(refused) => {
-            let size = refusal_text::put_refusal(text, refused);
+            let size = refusal_text::tell_refusal(text, refused);
             Err(Trouble { size })
         }
         Ok(periods) => {
@@ -133,7 +133,7 @@ fn put_refused_split(text: &mut [u8], period: u32, refused: Refused) -> usize
         (caused_line (number_of refused.refusal) refused.place (split_cause period (number_of refused.refusal)))
         text.old 0 text.new result }
 {
-    refusal_text::put_caused(text, refused, split_cause(period, refused.refusal))
+    refusal_text::tell_caused(text, refused, split_cause(period, refused.refusal))
 }
 
 // The split for a run of words.

@@ -3,7 +3,7 @@ use Rattle.check_text.proofs.CheckTextLaws.{text-faulty, text-numbers}
 use Rattle.check_text.proofs.check_text.Goals as goal
 
 pub returns-in-Err : goal.returns-in-Err
-returns-in-Err c = text-faulty c.scan.ensures _ _ c.in-Err.is c.put_fault-size.ensures
+returns-in-Err c = text-faulty c.scan.ensures _ _ c.in-Err.is c.tell_fault-size.ensures
 
 pub returns-in-Ok : goal.returns-in-Ok
 returns-in-Ok c =

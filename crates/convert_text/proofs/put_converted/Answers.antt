@@ -10,7 +10,7 @@ slice_bounds-put_words-end c = converted-lent c.convert.ensures c.in-Ok.is
 
 pub returns-in-Err : goal.returns-in-Err
 returns-in-Err c =
-    convert-refused c.convert.ensures c.in-Err.is c.put_refusal-size.ensures
+    convert-refused c.convert.ensures c.in-Err.is c.tell_refusal-size.ensures
 
 pub returns-in-Ok : goal.returns-in-Ok
 returns-in-Ok c =

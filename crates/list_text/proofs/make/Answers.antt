@@ -11,7 +11,7 @@ put_numbers-requires c =
     ((search rules, stored_short scan e), (numbers-some scan e, numbers-most scan e))
 
 pub returns-in-Err : goal.returns-in-Err
-returns-in-Err c = make-faulty c.scan.ensures c.in-Err.is c.put_fault-size.ensures
+returns-in-Err c = make-faulty c.scan.ensures c.in-Err.is c.tell_fault-size.ensures
 
 pub returns-in-Ok : goal.returns-in-Ok
 returns-in-Ok c =

@@ -11,7 +11,7 @@ put_read-requires c =
 
 pub returns-in-Err : goal.returns-in-Err
 returns-in-Err c =
-    show-refused c.read.ensures c.in-Err.is c.put_refusal-size.ensures
+    show-refused c.read.ensures c.in-Err.is c.tell_refusal-size.ensures
 
 pub returns-in-Ok : goal.returns-in-Ok
 returns-in-Ok c =

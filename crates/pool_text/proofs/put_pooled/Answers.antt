@@ -12,7 +12,7 @@ pub slice_bounds-put_words-end : goal.slice_bounds-put_words-end
 slice_bounds-put_words-end c = stored-lent (pool-stored c.pool.ensures c.in-Ok.is)
 
 pub returns-in-Err : goal.returns-in-Err
-returns-in-Err c = pool-refused c.pool.ensures c.in-Err.is c.put_refusal_of-size.ensures
+returns-in-Err c = pool-refused c.pool.ensures c.in-Err.is c.tell_refusal_of-size.ensures
 
 pub returns-in-Ok : goal.returns-in-Ok
 unfolding pooling

@@ -7,5 +7,5 @@ use Rattle.pool_text.proofs.put_refusal_of_neither.Goals as goal
 pub returns : goal.returns
 unfolding refusal_line_of_neither
 returns c =
-    let put = put_then (rw c.number.ensures at c.put_refused-a.ensures) (rw c.pool_words.ensures.is at c.put_bytes.ensures) in
+    let put = put_then c.put_refused-a.ensures (rw c.pool_words.ensures.is at c.put_bytes.ensures) in
     put-within put (omega (arith, put.most, c.pool_words.ensures.short))

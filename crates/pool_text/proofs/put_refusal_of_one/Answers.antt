@@ -7,6 +7,6 @@ use Rattle.pool_text.proofs.put_refusal_of_one.Goals as goal
 pub returns : goal.returns
 unfolding refusal_line_of_one
 returns c =
-    let put = put_then (rw c.number.ensures at c.put_refused-a.ensures)
+    let put = put_then c.put_refused-a.ensures
     (put_then c.put_named-b.ensures (put_then c.put_bytes-c.ensures (rw c.pool_words.ensures.is at c.put_bytes.ensures))) in
     put-within put (omega (arith, put.most, c.pool_words.ensures.short))

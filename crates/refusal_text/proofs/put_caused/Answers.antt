@@ -7,5 +7,5 @@ use Rattle.refusal_text.proofs.put_caused.Goals as goal
 pub returns : goal.returns
 unfolding caused_line
 returns c =
-    let put = put_then (rw c.number.ensures at c.put_refused-a.ensures) c.put_meaning.ensures in
+    let put = put_then c.put_refused-a.ensures c.put_meaning.ensures in
     put-within put (omega (arith, put.most))

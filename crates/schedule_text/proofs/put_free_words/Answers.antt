@@ -19,7 +19,7 @@ put_free-requires c =
 
 pub returns-in-Err : goal.returns-in-Err
 returns-in-Err c =
-    free-refused c.free.ensures c.in-Err.is c.put_refusal-size.ensures
+    free-refused c.free.ensures c.in-Err.is c.tell_refusal-size.ensures
 
 pub returns-in-Ok : goal.returns-in-Ok
 returns-in-Ok c =

@@ -1,0 +1,2 @@
+-- The laws, which other crates may cite too.
+pub mod RefusalTextLaws
