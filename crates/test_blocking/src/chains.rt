@@ -133,15 +133,20 @@ fn shown(list: List<'_>, period: u32, answer: &[u32], b: Blocked) -> bool {
         && kept(back, b.second as usize)
 }
 
+// No pair of the lists asks for more.
+const LONGEST: u32 = 0x1F_FFFF;
+
 // The common period: the longest that a pair asks for setup.
-pub fn common(list: List<'_>) -> u32 {
+pub fn common(list: List<'_>) -> u32
+    ensures { result < 2 ^ 21 }
+{
     let mut most: u32 = 1;
     for p in list.pairs {
         let [_, capture, _, greatest] = *p;
         let [_, setup] = list.needs_of(capture);
         most = most.max(greatest.saturating_add(setup));
     }
-    most
+    most.min(LONGEST)
 }
 
 // How a call fared at a period at which some split works, which makes it void, or none.

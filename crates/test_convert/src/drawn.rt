@@ -1,5 +1,6 @@
 // Random lists whose pairs come in any order and repeat.
 ghost use Rattle.std.specs.Prelude.{◌≤◌};
+ghost use Rattle.timing.specs.Limits.{max_registers, max_pairs};
 
 use test_kit::lists::{List, Pair};
 use test_kit::random::{Drawn, needs, next, up_to};
@@ -31,6 +32,7 @@ fn pair(seed: u64, n: u32, most: u32, list: List<'_>) -> (Pair, u64) {
 // A list of up to N registers, no fewer than one, and up to M pairs, with delays up to `delay`, more with a hold, and needs up to `need`.
 fn list<const N: usize, const M: usize>(seed: u64, delay: u32, need: u32) -> Drawn<N, M>
     requires { (N ≤ 64) × (M ≤ 64) }
+    ensures { (result.n ≤ max_registers) × (result.m ≤ max_pairs) }
 {
     let second = next(seed);
     let n = 1 + up_to(seed, (N as u32).saturating_sub(1));

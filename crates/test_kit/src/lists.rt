@@ -1,4 +1,6 @@
 // Lists, by the numbers of their pairs and the needs of their registers.
+ghost use Rattle.std.specs.Prelude.{◌≤◌, length};
+
 use crate::largest;
 use crate::places::{front, holds};
 use refusals::Refused;
@@ -120,7 +122,9 @@ impl<const M: usize> Pairs<M> {
         }
     }
 
-    pub fn all(&self) -> &[Pair] {
+    pub fn all(&self) -> &[Pair]
+        ensures { length result.now ≤ M }
+    {
         front(&self.places, self.count)
     }
 }

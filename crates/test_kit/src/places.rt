@@ -1,4 +1,6 @@
 // Buffers before and after a call.
+ghost use Rattle.std.specs.Prelude.{◌≤◌, length};
+
 // Stands in every place of a buffer before a call.
 pub const DIRT: u32 = 0xDEAD_BEEF;
 
@@ -23,7 +25,9 @@ pub fn cleared(scratch: &[u32], count: usize) -> bool {
 }
 
 // The first `count` places, or all if there are fewer.
-pub fn front<T>(s: &[T], count: usize) -> &[T] {
+pub fn front<T>(s: &[T], count: usize) -> &[T]
+    ensures { length result.now ≤ length s.now }
+{
     s.get(..count).unwrap_or(s)
 }
 

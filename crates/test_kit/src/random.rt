@@ -1,5 +1,6 @@
 // Numbers that look random, and lists of them.
 ghost use Rattle.std.specs.Prelude.{◌-◌, ◌^◌, ◌<◌, ◌≤◌};
+ghost use Rattle.timing.specs.Limits.{max_registers, max_pairs};
 
 use crate::largest::{PAIRS, REGISTERS};
 use crate::lists::{List, Needs, Pair};
@@ -98,7 +99,9 @@ pub fn pairs(seed: u64, n: u32, most: u32, needs: &[Needs], pairs: &mut [Pair]) 
 }
 
 // How many pairs of n registers there are, up to `most`.
-pub fn count(seed: u64, n: u32, most: usize) -> usize {
+pub fn count(seed: u64, n: u32, most: usize) -> usize
+    ensures { result ≤ most }
+{
     let keys = n.saturating_mul(n) as usize;
     up_to(seed, most.min(keys) as u32) as usize
 }
@@ -110,7 +113,10 @@ pub fn list<const N: usize, const M: usize>(
     registers: u32,
     delay: u32,
     need: u32,
-) -> Drawn<N, M> {
+) -> Drawn<N, M>
+    ensures registers { registers ≤ max_registers → result.n ≤ max_registers }
+    ensures pairs { M ≤ max_pairs → result.m ≤ max_pairs }
+{
     let mut d = Drawn {
         needs: [[0; 2]; N],
         pairs: [[0; 4]; M],

@@ -1,5 +1,6 @@
 // Random lists of one chip, two at a time: with the same registers and needs.
-ghost use Rattle.std.specs.Prelude.{◌≤◌};
+ghost use Rattle.std.specs.Prelude.{◌+◌, ◌≤◌};
+ghost use Rattle.timing.specs.Limits.{max_registers, max_pairs};
 
 use test_kit::lists::{List, Needs, Pair, Pairs};
 use test_kit::places::{front, rest};
@@ -50,6 +51,7 @@ impl<const N: usize, const M: usize> Two<N, M> {
 // hold, and needs up to `need`.
 fn draw<const N: usize, const M: usize>(seed: u64, delay: u32, need: u32) -> Two<N, M>
     requires { (N ≤ 64) × (M ≤ 64) }
+    ensures { (result.n ≤ max_registers) × (result.first + result.second ≤ max_pairs) }
 {
     let mut d = Two {
         needs: [[0; 2]; N],
