@@ -9,6 +9,6 @@ returns-in_default c =
 
 pub returns : goal.returns
 returns c =
-    blocked-shown c.args.list.words.now c.args.period c.args.answer.now c.args.scratch.now c.requires c.prepare.ensures c.in-Some.ensures.0.0 c.in-Some.ensures.0.1
-    c.put_chains-blocked.ensures
+    blocked-shown c.args.list.words.now c.args.period c.args.answer.now c.args.scratch.now c.requires c.prepare.ensures c.in-Some.ensures.0.0
+    c.in-Some.ensures.0.1 c.put_chains-blocked.ensures
     (rw c.scratch_places-end.ensures at c.clear-2.ensures)
